@@ -1,7 +1,7 @@
 #!/usr/bin/env python3
 """Checks pdb_inspect against pdb_symbolizer at every address, and against llvm-pdbutil and md5sum.
 
-    tests/inspect.py [--built BUILT | --unproved] [FILE ..]
+    tests/inspect.py [--built BUILT | --unproved] [--record | FILE ..]
 
 FILE is a program database; without one the four stored ones are taken. BUILT is where the programs
 lie, with NAME in it for a program's name; if left out, the proved ones are run. Of each file:
@@ -20,8 +20,13 @@ lie, with NAME in it for a program's name; if left out, the proved ones are run.
 - `diff`: the changes add up to the difference of the totals, and are none of a file to itself;
 - CSV and JSON have the same rows.
 
-llvm-pdbutil's checks are left out where it isn't installed, which is said. A file with more than a
-million bytes of code is asked at some of its addresses. The last line is `N passed, M failed`.
+- long work shows how far it is where standard error is a terminal, and nowhere else;
+- each fault is told by its name, on standard error.
+
+What llvm-pdbutil 14 says of the stored databases is recorded in tests/inspect, one file for each
+that it can read, and --record writes that anew. Of other databases its checks are left out where it isn't installed,
+which is said. A file with more than a million bytes of code is asked at some of its addresses. The
+last line is `N passed, M failed`.
 """
 import csv
 import hashlib
@@ -40,6 +45,7 @@ from built import ROOT, end, program, stop, taken  # noqa: E402
 
 STORED = [f"{ROOT}/crates/pdb_symbolizer/data/{it}.pdb" for it in ("x64", "i386", "gnu_ld", "damaged")]
 PLACE = re.compile(r"  (.*) at (.*):(\d+|\?\?) @.*")
+ASKED = "section-headers", "section-contribs", "modules", "summary", "files"
 MOST = 1_000_000
 counts = [0, 0]
 
@@ -171,7 +177,35 @@ def check_sizes(inspect, symbolizer, file, last, contributions):
     check(f"sizes {file} joined", got == joined, f"{set(got.items()) ^ set(joined.items())}")
 
 
+def recorded(file):
+    """Where it is recorded what llvm-pdbutil says of a stored database."""
+    return f"{ROOT}/tests/inspect/{os.path.basename(file).removesuffix('.pdb')}.txt"
+
+
+def record():
+    """Records what llvm-pdbutil says of the stored databases."""
+    for file in STORED:
+        said = {it: said_by_pdbutil(it, file) for it in ASKED}
+        if not all(said.values()):
+            continue
+        with open(recorded(file), "w", encoding="utf-8") as out:
+            for what, text in said.items():
+                lines = [line.rstrip() for line in text.strip("\n").split("\n")]
+                out.write(f"$ llvm-pdbutil dump --{what}\n" + "\n".join(lines) + "\n")
+
+
 def pdbutil(what, file):
+    """What llvm-pdbutil says of a file: of a stored one what is recorded."""
+    if file not in STORED:
+        return said_by_pdbutil(what, file)
+    if not os.path.exists(recorded(file)):
+        return ""
+    with open(recorded(file), encoding="utf-8") as text:
+        pieces = dict(it.split("\n", 1) for it in text.read().split("$ llvm-pdbutil dump --")[1:])
+    return pieces.get(what, "")
+
+
+def said_by_pdbutil(what, file):
     """What llvm-pdbutil says of a file; nothing where it isn't installed, or can't read the file."""
     if not shutil.which("llvm-pdbutil"):
         return ""
@@ -311,6 +345,33 @@ def check_file(inspect, symbolizer, file):
     check_sources(inspect, file)
 
 
+def on_terminal(words):
+    """What a program writes to standard error where that is a terminal; and its output."""
+    shown, terminal = os.openpty()
+    done = subprocess.run(words, stdout=subprocess.PIPE, stderr=terminal)
+    os.close(terminal)
+    try:
+        text = os.read(shown, 1 << 16)
+    except OSError:
+        text = b""
+    os.close(shown)
+    return text, done.stdout
+
+
+def check_progress(inspect):
+    x64, i386 = STORED[:2]
+    cases = [
+        (["sources", x64, f"{ROOT}/examples/source"], rb"\r0 of 4 files\r {40}\r"),
+        (["diff", x64, i386], b"%s\r {%d}\r%s\r {%d}\r" % (x64.encode(), len(x64), i386.encode(), len(i386))),
+        (["functions", x64], b""),
+    ]
+    for words, form in cases:
+        alone = subprocess.run([inspect, *words], stdout=subprocess.PIPE, stderr=subprocess.PIPE)
+        text, output = on_terminal([inspect, *words])
+        check(f"progress of {words[0]}", re.fullmatch(form, text), text)
+        check(f"no progress of {words[0]}", (alone.stdout, alone.stderr) == (output, b""), alone.stderr)
+
+
 def check_faults(inspect):
     cases = [
         (["sizes", "data/x.pdb"], b"pdb_inspect: cannot read data/x.pdb: No such file or directory\n", 1),
@@ -338,8 +399,10 @@ def attempt(what, checks, *words):
 
 def main():
     place_of, files = taken(sys.argv[1:], compiled.place)
+    if files == ["--record"]:
+        return record()
     inspect, symbolizer = program(place_of, "pdb_inspect"), program(place_of, "pdb_symbolizer")
-    if not shutil.which("llvm-pdbutil"):
+    if files and not shutil.which("llvm-pdbutil"):
         print("llvm-pdbutil isn't installed: what is checked by it is left out")
     if not run([inspect, "--version"]).startswith("pdb_inspect "):
         stop(f"{inspect} doesn't say its version")
@@ -350,6 +413,7 @@ def main():
         attempt(file, check_file, inspect, symbolizer, file)
     attempt("diff", check_diff, inspect, files[0], files[-1])
     attempt("diff of one", check_diff, inspect, files[0], files[0])
+    attempt("progress", check_progress, inspect)
     attempt("faults", check_faults, inspect)
     end(*counts)
 
