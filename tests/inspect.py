@@ -20,6 +20,7 @@ lie, with NAME in it for a program's name; if left out, the proved ones are run.
 - `diff`: the changes add up to the difference of the totals, and are none of a file to itself;
 - CSV and JSON have the same rows.
 
+- a pipe gives what its file gives;
 - long work shows how far it is where standard error is a terminal, and nowhere else;
 - each fault is told by its name, on standard error.
 
@@ -372,6 +373,18 @@ def check_progress(inspect):
         check(f"no progress of {words[0]}", (alone.stdout, alone.stderr) == (output, b""), alone.stderr)
 
 
+def check_pipe(inspect, file):
+    with open(file, "rb") as opened:
+        content = opened.read()
+    for command in ("functions", "lines", "modules", "sources", "sizes"):
+        words = [inspect, command, "/dev/stdin", "--format", "json"]
+        same = run(words, content) == run([inspect, command, file, "--format", "json"])
+        check(f"{command} of a pipe", same, "its rows differ from those of the file")
+    came = json.loads(run([inspect, "info", "/dev/stdin", "--format", "json"], content))
+    wanted = json.loads(run([inspect, "info", file, "--format", "json"]))
+    check("info of a pipe", {**came, "file": file} == wanted, f"{came} and {wanted}")
+
+
 def check_faults(inspect):
     cases = [
         (["sizes", "data/x.pdb"], b"pdb_inspect: cannot read data/x.pdb: No such file or directory\n", 1),
@@ -414,6 +427,7 @@ def main():
     attempt("diff", check_diff, inspect, files[0], files[-1])
     attempt("diff of one", check_diff, inspect, files[0], files[0])
     attempt("progress", check_progress, inspect)
+    attempt("a pipe", check_pipe, inspect, files[0])
     attempt("faults", check_faults, inspect)
     end(*counts)
 

@@ -22,7 +22,8 @@ nothing refused.
 - `recorded_cases reads`, on recorded reads of records, streams and tables: the call that finds no
   memory says so, and is made again.
 - `pdb_inspect`, on each of its commands: such a run ends with status 1 and `pdb_inspect: out of
-  memory`, and what is out is a prefix.
+  memory`, and what is out is a prefix. A run whose Nth read at an offset fails says which file can't
+  be read.
 - `recorded_cases again`, on the files of the same rows and on the recorded texts: the call that
   finds no memory says so. The same context or formatter then answers it, and all other questions of
   its file, as if nothing was refused.
@@ -237,14 +238,20 @@ COMMANDS = [
     "sources F ../../../examples/source",
     "info F",
     "locate F plain start+16",
+    "sizes F",
     "sizes F --by file",
     "sizes F --by folder",
+    "sizes F --by module",
     "sizes F --by library",
+    "sizes F --by section",
     "sizes F --join-padding --top 3",
+    "diff F i386.pdb",
     "diff F i386.pdb --by section",
     "help sizes",
     "sizes F --top a",
 ]
+# Those of them that read no file.
+UNREAD = "help sizes", "sizes F --top a"
 
 
 class Inspected(Case):
@@ -254,6 +261,12 @@ class Inspected(Case):
 
     def __init__(self, words):
         super().__init__(f"inspect {words}", words.replace("F", "x64.pdb").split())
+        self.least_reads = None if words in UNREAD else 1
+
+    def is_unread(self, wanted, came):
+        """Whether a run in which a read failed is as it has to be."""
+        said = re.fullmatch(rb"pdb_inspect: cannot read \S+\.pdb: Input/output error\n", came[2])
+        return came[0] == 1 and said is not None and wanted[1].startswith(came[1])
 
     def is_right(self, wanted, came):
         """Whether a run in which a request was refused is as it has to be."""

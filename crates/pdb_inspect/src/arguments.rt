@@ -87,7 +87,7 @@ const FORMATS: &[&str] = &["text", "csv", "json"];
 const FUNCTION_KINDS: &[&str] = &["function", "file", "folder", "module", "library", "section"];
 
 /// What sizes are by.
-#[derive(Clone, Copy, PartialEq, Eq)]
+#[derive(Clone, Copy)]
 pub enum By {
     /// The function.
     Function,
@@ -442,7 +442,7 @@ fn size_options(alloc: Global, matches: &ArgMatches<'_>) -> Result<SizeOptions, 
     };
     let by = by_in(matches);
     let join_padding = matches.get_flag("join-padding");
-    if join_padding && by != By::Function {
+    if join_padding && !matches!(by, By::Function) {
         let text = "--join-padding goes with --by function alone";
         return Err(Fault::Words(String::from_str(alloc, text)?));
     }

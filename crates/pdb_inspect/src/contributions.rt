@@ -3,8 +3,8 @@
 use crate::fault::{Fault, load_fault};
 use crate::loaded::Loaded;
 use pdb_container::{Error, FallibleIterator};
+use pdb_databases::LoadFault;
 use pdb_listings::{ByteCounts, ModulePart, module_sizes};
-use pdb_loading::LoadFault;
 use pdb_resolving::ModuleProvider;
 use pdb_symbols_modules::{DBISectionContribution, Module, ModuleInfo};
 use std::alloc::{AllocError, Global};
@@ -15,9 +15,9 @@ use std::alloc::{AllocError, Global};
 /// `Load`, `OutOfMemory`.
 pub fn contributions_of(
     alloc: Global,
-    loaded: &Loaded,
+    loaded: Loaded<'_>,
 ) -> Result<Vec<DBISectionContribution>, Fault> {
-    let path = loaded.path.as_str();
+    let path = loaded.path;
     let mut found = Vec::new(alloc);
     let mut list = match loaded.held.debug_information().section_contributions() {
         Ok(list) => list,
@@ -37,8 +37,8 @@ pub fn contributions_of(
 ///
 /// # Errors
 /// `Load`, `OutOfMemory`.
-pub fn modules_of<'l>(alloc: Global, loaded: &'l Loaded) -> Result<Vec<Module<'l>>, Fault> {
-    let path = loaded.path.as_str();
+pub fn modules_of<'a>(alloc: Global, loaded: Loaded<'a>) -> Result<Vec<Module<'a>>, Fault> {
+    let path = loaded.path;
     let mut found = Vec::new(alloc);
     let mut list = loaded.held.debug_information().modules();
     for _ in 0..u64::MAX {
@@ -55,12 +55,12 @@ pub fn modules_of<'l>(alloc: Global, loaded: &'l Loaded) -> Result<Vec<Module<'l
 ///
 /// # Errors
 /// `AllocError` when memory runs out.
-pub fn information_of<'l>(
-    loaded: &'l Loaded,
+pub fn information_of<'a>(
+    loaded: Loaded<'a>,
     number: usize,
     module: &Module<'_>,
-) -> Result<Option<&'l ModuleInfo<'static>>, AllocError> {
-    match loaded.held.modules().get_module_info(number, module) {
+) -> Result<Option<&'a ModuleInfo<'static>>, AllocError> {
+    match loaded.modules.get_module_info(number, module) {
         Ok(information) => Ok(information),
         Err(Error::OutOfMemory) => Err(AllocError),
         Err(_) => Ok(None),
@@ -71,7 +71,10 @@ pub fn information_of<'l>(
 ///
 /// # Errors
 /// `Load`, `OutOfMemory`.
-pub fn sizes_of_modules(alloc: Global, loaded: &Loaded) -> Result<ByteCounts<ModulePart>, Fault> {
+pub fn sizes_of_modules(
+    alloc: Global,
+    loaded: Loaded<'_>,
+) -> Result<ByteCounts<ModulePart>, Fault> {
     let contributions = contributions_of(alloc, loaded)?;
     if contributions.len() >= 1 << 32 {
         return Err(Fault::OutOfMemory);

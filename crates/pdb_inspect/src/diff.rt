@@ -1,12 +1,8 @@
 //! What changed between two databases.
 
-use crate::arguments::SizeOptions;
 use crate::fault::Fault;
-use crate::loaded::Loaded;
-use crate::output::{Output, text_value};
-use crate::progress::Progress;
-use crate::sizes::sizes_of;
-use pdb_listings::{Change, Column, Value, changes_of, total_of};
+use crate::output::Output;
+use pdb_listings::{Change, Column, Size, Value, changes_of, total_of};
 use std::alloc::{AllocError, Global};
 use std::io::Write;
 
@@ -34,20 +30,15 @@ const COLUMNS: &[Column] = &[
 ];
 
 /// Writes a row.
-fn write_row<W: Write + Drop>(
-    alloc: Global,
-    change: &Change,
-    output: &mut Output<W>,
-) -> Result<(), Fault> {
+fn write_row<W: Write + Drop>(change: &Change, output: &mut Output<W>) -> Result<(), Fault> {
     let (rose, by) = change.difference();
-    let name = text_value(alloc, change.name.as_str())?;
-    let values = vec![in alloc;
+    let values = [
         Value::Number(change.old),
         Value::Number(change.new),
         Value::Change(rose, by),
-        name,
-    ]?;
-    output.row(COLUMNS, values)
+        Value::Text(change.name.as_str()),
+    ];
+    output.row(COLUMNS, &values)
 }
 
 /// The changes that change something, the largest first.
@@ -66,59 +57,31 @@ fn largest_first(alloc: Global, changes: Vec<Change>) -> Result<Vec<Change>, All
     Ok(found)
 }
 
-/// What changed, the largest change first, and the totals.
-#[derive(Drop)]
-pub struct Changes {
-    changes: Vec<Change>,
-    total: Change,
-}
-
-/// What changed from a database to another.
-///
-/// # Errors
-/// Why it can't be counted.
-pub fn find_changes<E: Write>(
-    alloc: Global,
-    old: &Loaded,
-    new: &Loaded,
-    options: SizeOptions,
-    undecorate: bool,
-    progress: &mut Progress<E>,
-) -> Result<Changes, Fault> {
-    progress.over(old.path.as_str());
-    let old_sizes = sizes_of(alloc, old, options, undecorate)?;
-    progress.over(new.path.as_str());
-    let new_sizes = sizes_of(alloc, new, options, undecorate)?;
-    progress.end();
-    let changes = changes_of(alloc, &old_sizes, &new_sizes)?;
-    Ok(Changes {
-        changes: largest_first(alloc, changes)?,
-        total: Change {
-            name: String::from_str(alloc, "(total)")?,
-            old: total_of(&old_sizes),
-            new: total_of(&new_sizes),
-        },
-    })
-}
-
-/// Writes what changed, the largest change first; in lines for people then the totals.
+/// Writes what changed from sizes to others, the largest change first; in lines for people then the
+/// totals. Both are in the order of their names.
 ///
 /// # Errors
 /// Why not all is written.
 pub fn write<W: Write + Drop>(
     alloc: Global,
-    changes: Changes,
-    options: SizeOptions,
+    old: &[Size],
+    new: &[Size],
+    top: Option<usize>,
     output: &mut Output<W>,
 ) -> Result<(), Fault> {
-    let Changes { changes, total } = changes;
+    let changes = largest_first(alloc, changes_of(alloc, old, new)?)?;
     output.header(COLUMNS)?;
-    let count = options.top.unwrap_or(changes.len());
+    let count = top.unwrap_or(changes.len());
     for change in changes.iter().take(count) {
-        write_row(alloc, change, output)?;
+        write_row(change, output)?;
     }
-    if output.is_text() {
-        write_row(alloc, &total, output)?;
+    if !output.is_text() {
+        return Ok(());
     }
-    Ok(())
+    let total = Change {
+        name: String::from_str(alloc, "(total)")?,
+        old: total_of(old),
+        new: total_of(new),
+    };
+    write_row(&total, output)
 }

@@ -1,7 +1,6 @@
 //! Why a listing isn't written.
 
-use pdb_addr2line::Error as ContextError;
-use pdb_loading::LoadFault;
+use pdb_databases::{FileFault, LoadFault};
 use std::alloc::{AllocError, AllocFailed, Global};
 use std::io::ErrorKind;
 use thiserror::Error;
@@ -49,9 +48,12 @@ pub fn load_fault(alloc: Global, path: &str, fault: LoadFault) -> Fault {
     }
 }
 
-/// A fault of a context over a file, with the file's path.
-pub fn context_fault(alloc: Global, path: &str, error: ContextError) -> Fault {
-    load_fault(alloc, path, LoadFault::from(error))
+/// A fault of a file that is read on demand, with its path.
+pub fn file_fault(alloc: Global, path: &str, fault: FileFault) -> Fault {
+    match fault {
+        FileFault::Load(fault) => load_fault(alloc, path, fault),
+        FileFault::File(kind) => read_fault(alloc, path, kind),
+    }
 }
 
 /// A fault of reading a file, with its path.

@@ -6,7 +6,7 @@ use crate::output::{Output, number_or_unknown, text_or_unknown};
 use pdb_addr2line::Function;
 use pdb_function_lists::{FunctionRow, list_functions};
 use pdb_listings::{Column, Value, listed_name};
-use std::alloc::{AllocError, Global};
+use std::alloc::Global;
 use std::io::Write;
 
 const COLUMNS: &[Column] = &[
@@ -38,39 +38,41 @@ const COLUMNS: &[Column] = &[
 ];
 
 /// How many bytes a function has, if its end is known.
-fn size_of(function: &Function) -> Value {
+fn size_of(function: &Function) -> Value<'static> {
     match function.end_rva {
         None => Value::Unknown,
         Some(end) => Value::Number(u64::from(end.saturating_sub(function.start_rva))),
     }
 }
 
-/// The name of a function as it is listed.
-fn name_of(alloc: Global, function: &Function, undecorate: bool) -> Result<Value, AllocError> {
-    match &function.name {
-        None => Ok(Value::Unknown),
-        Some(name) => Ok(Value::Text(listed_name(alloc, name.as_str(), undecorate)?)),
-    }
+/// Writes the row of a function under a name.
+fn write_row<'r, W: Write + Drop>(
+    row: &'r FunctionRow,
+    name: Value<'r>,
+    output: &mut Output<W>,
+) -> Result<(), Fault> {
+    let values = [
+        Value::Address(row.function.start_rva),
+        size_of(&row.function),
+        name,
+        text_or_unknown(&row.file),
+        number_or_unknown(row.line),
+    ];
+    output.row(COLUMNS, &values)
 }
 
-/// Writes the row of a function.
-fn write_row<W: Write + Drop>(
+/// Writes the row of a function, by its name as it is listed.
+fn write_function<W: Write + Drop>(
     alloc: Global,
-    row: FunctionRow,
+    row: &FunctionRow,
     undecorate: bool,
     output: &mut Output<W>,
 ) -> Result<(), Fault> {
-    let FunctionRow {
-        function,
-        file,
-        line,
-    } = row;
-    let start = Value::Address(function.start_rva);
-    let size = size_of(&function);
-    let name = name_of(alloc, &function, undecorate)?;
-    let file = text_or_unknown(file);
-    let line = number_or_unknown(line);
-    output.row(COLUMNS, vec![in alloc; start, size, name, file, line]?)
+    let Some(name) = &row.function.name else {
+        return write_row(row, Value::Unknown, output);
+    };
+    let name = listed_name(alloc, name.as_str(), undecorate)?;
+    write_row(row, Value::Text(name.as_str()), output)
 }
 
 /// Writes the functions of a database.
@@ -79,14 +81,24 @@ fn write_row<W: Write + Drop>(
 /// Why not all are written.
 pub fn write<W: Write + Drop>(
     alloc: Global,
-    loaded: &Loaded,
+    loaded: Loaded<'_>,
     undecorate: bool,
     output: &mut Output<W>,
 ) -> Result<(), Fault> {
-    let mut context = loaded.context(alloc)?;
+    let rows = rows_of(alloc, loaded)?;
     output.header(COLUMNS)?;
-    for row in list_functions(alloc, loaded.context(alloc)?, &mut context)? {
-        write_row(alloc, row, undecorate, output)?;
+    for row in &rows {
+        write_function(alloc, row, undecorate, output)?;
     }
     Ok(())
+}
+
+/// The functions of a database with their places.
+///
+/// # Errors
+/// `Load`, `OutOfMemory`.
+pub fn rows_of(alloc: Global, loaded: Loaded<'_>) -> Result<Vec<FunctionRow>, Fault> {
+    let mut context = loaded.context(alloc)?;
+    let lister = loaded.context(alloc)?;
+    Ok(list_functions(alloc, lister, &mut context)?)
 }

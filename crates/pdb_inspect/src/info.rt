@@ -1,29 +1,94 @@
 //! What a database says of itself.
 
 use crate::contributions::{information_of, modules_of};
-use crate::fault::{Fault, load_fault, read_fault};
-use crate::loaded::Loaded;
+use crate::fault::{Fault, file_fault, read_fault};
+use crate::loaded::{Loaded, Needs, load_file};
 use crate::modules::compiler;
-use crate::output::{Output, number_or_unknown, text_value};
-use pdb_addr2line::pdb::PDB;
+use crate::opened_file::open;
+use crate::output::{Output, text_or_unknown};
+use bumpalo::Bump;
 use pdb_container::{half_at, word_at};
-use pdb_file_views::FileSource;
-use pdb_image::{Image, ImageError, PdbIdentity};
+use pdb_databases::{FileOnDemand, PdbIdentity};
+use pdb_image::{Image, ImageError};
 use pdb_listings::{ByteCounts, Column, Named, SymbolCounts, Value, add_bytes, listed};
-use pdb_loading::LoadFault;
-use pdb_symbols_modules::MachineType;
+use pdb_symbols_modules::{MachineType, Module};
 use std::alloc::{AllocError, Global};
 use std::fs;
-use std::io::Write;
+use std::io::{self, Write};
+use std::os::unix::fs::FileExt;
 use std::rt::Files;
+
+const COLUMNS: &[Column] = &[
+    Column {
+        name: "file",
+        before: "file        ",
+        width: 0,
+    },
+    Column {
+        name: "guid",
+        before: "\nGUID        ",
+        width: 0,
+    },
+    Column {
+        name: "age",
+        before: "\nage         ",
+        width: 0,
+    },
+    Column {
+        name: "machine",
+        before: "\nmachine     ",
+        width: 0,
+    },
+    Column {
+        name: "page_size",
+        before: "\npage size   ",
+        width: 0,
+    },
+    Column {
+        name: "streams",
+        before: "\nstreams     ",
+        width: 0,
+    },
+    Column {
+        name: "modules",
+        before: "\nmodules     ",
+        width: 0,
+    },
+    Column {
+        name: "procedures",
+        before: "\nprocedures  ",
+        width: 0,
+    },
+    Column {
+        name: "publics",
+        before: "\npublics     ",
+        width: 0,
+    },
+    Column {
+        name: "compilers",
+        before: "\ncompilers   ",
+        width: 0,
+    },
+    Column {
+        name: "fits",
+        before: "\nimage fits  ",
+        width: 0,
+    },
+];
+
+/// What a database's file says of itself.
+#[derive(Clone, Copy)]
+pub struct FileFacts {
+    identity: PdbIdentity,
+    page_size: u32,
+    streams: u32,
+}
 
 /// What a database says of itself.
 #[derive(Drop)]
 struct Information {
-    identity: PdbIdentity,
-    machine: MachineType,
-    page_size: u32,
-    streams: Option<u32>,
+    guid: String,
+    machine: String,
     modules: usize,
     symbols: SymbolCounts,
     compilers: String,
@@ -59,29 +124,69 @@ fn machine_text(alloc: Global, machine: MachineType) -> Result<String, AllocErro
     }
 }
 
-/// The four bytes at a place, if they are there.
-fn word_in(bytes: &[u8], place: usize) -> Option<u32> {
-    let rest = bytes.get(place..)?;
-    if rest.len() < 4 {
-        return None;
-    }
-    Some(word_at(rest, 0))
+/// The number of the four bytes at a place of a file.
+fn word_of(file: &impl FileExt, place: u64) -> io::Result<u32> {
+    let mut bytes = [0u8; 4];
+    file.read_exact_at(&mut bytes, place)?;
+    Ok(u32::from_le_bytes(bytes))
 }
 
-/// How many streams a container has: the first number of its directory, whose first page is named
-/// by the page of page numbers that the header names.
-fn stream_count(bytes: &[u8]) -> Option<u32> {
-    let page_size = word_in(bytes, 32)?;
-    let list = word_in(bytes, 52)?;
-    let page_size = page_size as usize;
-    let first = word_in(bytes, page_size.saturating_mul(list as usize))?;
-    word_in(bytes, page_size.saturating_mul(first as usize))
+/// The number of the four bytes at the beginning of a page of a file.
+fn word_of_page(file: &impl FileExt, page_size: u32, page: u32) -> io::Result<u32> {
+    word_of(file, u64::from(page_size).saturating_mul(u64::from(page)))
+}
+
+/// The page size of a container, in bytes, and how many streams it has: the first number of its
+/// directory, whose first page is named by the page of page numbers that the header names.
+fn pages_of(file: &impl FileExt) -> io::Result<(u32, u32)> {
+    let page_size = word_of(file, 32)?;
+    let list = word_of(file, 52)?;
+    let first = word_of_page(file, page_size, list)?;
+    let streams = word_of_page(file, page_size, first)?;
+    Ok((page_size, streams))
+}
+
+/// What a database's file says of itself.
+fn facts_of<F: FileExt + Drop>(
+    alloc: Global,
+    path: &str,
+    source: &mut FileOnDemand<'_, F>,
+) -> Result<FileFacts, Fault> {
+    let identity = match source.identity(alloc) {
+        Ok(identity) => identity,
+        Err(fault) => return Err(file_fault(alloc, path, fault)),
+    };
+    match pages_of(&source.file) {
+        Ok((page_size, streams)) => Ok(FileFacts {
+            identity,
+            page_size,
+            streams,
+        }),
+        Err(error) => Err(read_fault(alloc, path, error.kind())),
+    }
+}
+
+/// Loads the database of the file at a path, for all of its modules, and what the file says.
+///
+/// # Errors
+/// `Read`, `Load`, `OutOfMemory`.
+pub fn load_with_facts<'a, S: Files + AllocGlobal>(
+    rt: &S,
+    arena: &'a Bump,
+    path: &'a str,
+) -> Result<(Loaded<'a>, FileFacts), Fault>
+where
+    S::File: FileExt,
+{
+    let source = open(rt, arena, path)?;
+    let (loaded, mut source) = load_file(rt.alloc(), path, source, Needs::Modules)?;
+    let facts = facts_of(rt.alloc(), path, &mut source)?;
+    Ok((loaded, facts))
 }
 
 /// How many procedures all modules have, and how many public symbols the database has.
-fn all_symbols(alloc: Global, loaded: &Loaded) -> Result<SymbolCounts, Fault> {
+fn all_symbols(loaded: Loaded<'_>, modules: &[Module<'_>]) -> Result<SymbolCounts, AllocError> {
     let mut counts = SymbolCounts::default();
-    let modules = modules_of(alloc, loaded)?;
     for (number, module) in modules.iter().enumerate() {
         let Some(module) = information_of(loaded, number, module)? else {
             continue;
@@ -97,9 +202,12 @@ fn all_symbols(alloc: Global, loaded: &Loaded) -> Result<SymbolCounts, Fault> {
 }
 
 /// How many modules each compiler made.
-fn modules_by_compiler(alloc: Global, loaded: &Loaded) -> Result<ByteCounts<Named>, Fault> {
+fn modules_by_compiler(
+    alloc: Global,
+    loaded: Loaded<'_>,
+    modules: &[Module<'_>],
+) -> Result<ByteCounts<Named>, AllocError> {
     let mut table: ByteCounts<Named> = ByteCounts::new(alloc);
-    let modules = modules_of(alloc, loaded)?;
     for (number, module) in modules.iter().enumerate() {
         if let Some(name) = compiler(alloc, loaded, number, module)? {
             if table.total() < u64::MAX {
@@ -111,8 +219,12 @@ fn modules_by_compiler(alloc: Global, loaded: &Loaded) -> Result<ByteCounts<Name
 }
 
 /// The compilers of all modules, with how many modules each made.
-fn all_compilers(alloc: Global, loaded: &Loaded) -> Result<String, Fault> {
-    let sizes = listed(alloc, &modules_by_compiler(alloc, loaded)?)?;
+fn all_compilers(
+    alloc: Global,
+    loaded: Loaded<'_>,
+    modules: &[Module<'_>],
+) -> Result<String, AllocError> {
+    let sizes = listed(alloc, &modules_by_compiler(alloc, loaded, modules)?)?;
     let mut text = String::new(alloc);
     for size in &sizes {
         if !text.is_empty() {
@@ -160,83 +272,61 @@ fn image_fault(alloc: Global, path: &str, error: ImageError) -> Result<Fault, Al
     Ok(Fault::Image(path, why))
 }
 
-/// The identity of a database.
-fn identity_of(alloc: Global, loaded: &Loaded) -> Result<PdbIdentity, Fault> {
-    let path = loaded.path.as_str();
-    let source = FileSource::whole(loaded.bytes.share()?);
-    let mut pdb = match PDB::open(alloc, source) {
-        Ok(pdb) => pdb,
-        Err(error) => return Err(load_fault(alloc, path, LoadFault::from(error))),
-    };
-    let age = loaded.held.debug_information().age();
-    match pdb.pdb_information(alloc) {
-        Ok(information) => Ok(PdbIdentity::of_pdb(information.guid, information.age, age)),
-        Err(error) => Err(load_fault(alloc, path, LoadFault::from(error))),
+/// Whether the image fits, if one is given.
+fn fits_if_given(
+    rt: &(impl Files + AllocGlobal),
+    image: &Option<String>,
+    identity: PdbIdentity,
+) -> Result<Option<String>, Fault> {
+    match image {
+        Some(image) => Ok(Some(image_fits(rt, image.as_str(), identity)?)),
+        None => Ok(None),
     }
 }
 
 /// What a database says of itself.
 fn gathered(
-    rt: &(impl Files + AllocGlobal),
-    loaded: &Loaded,
-    image: &Option<String>,
+    alloc: Global,
+    loaded: Loaded<'_>,
+    identity: PdbIdentity,
+    fits: Option<String>,
 ) -> Result<Information, Fault> {
-    let alloc = rt.alloc();
-    let identity = identity_of(alloc, loaded)?;
-    let fits = match image {
-        None => None,
-        Some(image) => Some(image_fits(rt, image.as_str(), identity)?),
-    };
-    let bytes = loaded.bytes.as_slice();
+    let modules = modules_of(alloc, loaded)?;
     Ok(Information {
-        identity,
-        machine: loaded.held.debug_information().machine_type(),
-        page_size: word_in(bytes, 32).unwrap_or(0),
-        streams: stream_count(bytes),
-        modules: modules_of(alloc, loaded)?.len(),
-        symbols: all_symbols(alloc, loaded)?,
-        compilers: all_compilers(alloc, loaded)?,
+        guid: guid_text(alloc, &identity.guid)?,
+        machine: machine_text(alloc, loaded.held.debug_information().machine_type())?,
+        modules: modules.len(),
+        symbols: all_symbols(loaded, &modules)?,
+        compilers: all_compilers(alloc, loaded, &modules)?,
         fits,
     })
 }
 
-/// A column of what a database says: a line of its own for people.
-fn line_column(name: &'static str, before: &'static str) -> Column {
-    Column {
-        name,
-        before,
-        width: 0,
+/// Writes what a database says of itself.
+fn write_row<'r, W: Write + Drop>(
+    path: &'r str,
+    facts: FileFacts,
+    found: &'r Information,
+    output: &mut Output<W>,
+) -> Result<(), Fault> {
+    let values = [
+        Value::Text(path),
+        Value::Text(found.guid.as_str()),
+        Value::Number(u64::from(facts.identity.age)),
+        Value::Text(found.machine.as_str()),
+        Value::Number(u64::from(facts.page_size)),
+        Value::Number(u64::from(facts.streams)),
+        Value::Number(found.modules as u64),
+        Value::Number(found.symbols.procedures),
+        Value::Number(found.symbols.publics),
+        Value::Text(found.compilers.as_str()),
+        text_or_unknown(&found.fits),
+    ];
+    let count = if found.fits.is_some() { 11 } else { 10 };
+    if !output.is_text() {
+        output.header(&COLUMNS[..count])?;
     }
-}
-
-/// The values of what a database says of itself.
-fn values_of(alloc: Global, path: &str, found: Information) -> Result<Vec<Value>, Fault> {
-    let Information {
-        identity,
-        machine,
-        page_size,
-        streams,
-        modules,
-        symbols,
-        compilers,
-        fits,
-    } = found;
-    let mut values = vec![in alloc;
-        text_value(alloc, path)?,
-        Value::Text(guid_text(alloc, &identity.guid)?),
-        Value::Number(u64::from(identity.age)),
-        Value::Text(machine_text(alloc, machine)?),
-        Value::Number(u64::from(page_size)),
-        number_or_unknown(streams),
-        Value::Number(modules as u64),
-        Value::Number(symbols.procedures),
-        Value::Number(symbols.publics),
-        Value::Text(compilers),
-    ]?;
-    if let Some(fits) = fits {
-        values.push(Value::Text(fits))?;
-    }
-    Ok(values)
+    output.row(COLUMNS, &values[..count])
 }
 
 /// Writes what a database says of itself, and whether the image fits, if one is given.
@@ -245,29 +335,12 @@ fn values_of(alloc: Global, path: &str, found: Information) -> Result<Vec<Value>
 /// Why it isn't written.
 pub fn write<W: Write + Drop>(
     rt: &(impl Files + AllocGlobal),
-    loaded: &Loaded,
+    loaded: Loaded<'_>,
+    facts: FileFacts,
     image: &Option<String>,
     output: &mut Output<W>,
 ) -> Result<(), Fault> {
-    let alloc = rt.alloc();
-    let found = gathered(rt, loaded, image)?;
-    let columns = [
-        line_column("file", "file        "),
-        line_column("guid", "\nGUID        "),
-        line_column("age", "\nage         "),
-        line_column("machine", "\nmachine     "),
-        line_column("page_size", "\npage size   "),
-        line_column("streams", "\nstreams     "),
-        line_column("modules", "\nmodules     "),
-        line_column("procedures", "\nprocedures  "),
-        line_column("publics", "\npublics     "),
-        line_column("compilers", "\ncompilers   "),
-        line_column("fits", "\nimage fits  "),
-    ];
-    let values = values_of(alloc, loaded.path.as_str(), found)?;
-    if !output.is_text() {
-        let given = columns.as_slice().get(..values.len());
-        output.header(given.unwrap_or(&columns))?;
-    }
-    output.row(&columns, values)
+    let fits = fits_if_given(rt, image, facts.identity)?;
+    let found = gathered(rt.alloc(), loaded, facts.identity, fits)?;
+    write_row(loaded.path, facts, &found, output)
 }

@@ -3,9 +3,10 @@
 ghost use Rattle.pdb_addresses.specs.Addresses.{IsOrdered};
 
 use crate::fault::Fault;
-use crate::loaded::{FileContext, Loaded};
+use crate::loaded::Loaded;
 use crate::output::{Output, number_or_unknown, text_or_unknown};
 use pdb_addresses::AddressMap;
+use pdb_databases::FileContext;
 use pdb_function_lists::{Line, is_same_line, line_run};
 use pdb_listings::{Column, Value};
 use std::alloc::Global;
@@ -45,7 +46,6 @@ struct LineRun {
 /// Runs that are written once they end.
 #[derive(Drop)]
 struct Lines<'o, W: Write + Drop> {
-    alloc: Global,
     output: &'o mut Output<W>,
     last: Option<LineRun>,
 }
@@ -56,13 +56,13 @@ impl<'o, W: Write + Drop> Lines<'o, W> {
         let Some(run) = self.last.take() else {
             return Ok(());
         };
-        let Line { file, line } = run.line;
-        let start = Value::Address(run.start);
-        let size = Value::Number(u64::from(run.length));
-        let file = text_or_unknown(file);
-        let line = number_or_unknown(line);
-        self.output
-            .row(COLUMNS, vec![in self.alloc; start, size, file, line]?)
+        let values = [
+            Value::Address(run.start),
+            Value::Number(u64::from(run.length)),
+            text_or_unknown(&run.line.file),
+            number_or_unknown(run.line.line),
+        ];
+        self.output.row(COLUMNS, &values)
     }
 
     /// Goes on with so many addresses of one line, or of none: with those that wait where they
@@ -113,7 +113,7 @@ fn write_range<W: Write + Drop>(
 /// Why not all are written.
 pub fn write<W: Write + Drop>(
     alloc: Global,
-    loaded: &Loaded,
+    loaded: Loaded<'_>,
     output: &mut Output<W>,
 ) -> Result<(), Fault> {
     let mut context = loaded.context(alloc)?;
@@ -122,11 +122,7 @@ pub fn write<W: Write + Drop>(
     if !map.is_ordered() {
         return Ok(());
     }
-    let mut lines = Lines {
-        alloc,
-        output,
-        last: None,
-    };
+    let mut lines = Lines { output, last: None };
     for header in map.image_section_headers() {
         if header.characteristics.execute() {
             let start = header.virtual_address;

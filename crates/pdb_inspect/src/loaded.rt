@@ -1,106 +1,192 @@
 //! A database that is loaded.
 
-use crate::fault::{Fault, context_fault, load_fault, read_fault};
+use crate::fault::{Fault, file_fault, load_fault, read_fault};
+use crate::opened_file::open;
+use bumpalo::Bump;
 use pdb_addr2line::pdb::PDB;
-use pdb_addr2line::{Context, ContextPdbData, KeptModules, TypeFormatterFlags};
-use pdb_container::{Error, SharedBytes, StringTable};
-use pdb_file_views::FileSource;
-use pdb_loading::{ContributionOrder, LoadFault, load_file, read_file};
+use pdb_container::{Error, Result as ReadResult, StringTable};
+use pdb_databases::{
+    ContributionOrder, FileContext, FileOnDemand, FileSymbolizer, Held, KeptModules, LoadFault,
+    NotLoaded, TRIES, TypeFormatterFlags,
+};
+use pdb_file_views::{FileSource, Wanted};
 use std::alloc::Global;
-use std::fs;
+use std::mem::forget;
+use std::os::unix::fs::FileExt;
 use std::rt::Files;
 
-/// What is held of a database.
-pub type Held = ContextPdbData<'static, 'static, FileSource>;
+/// What a command goes over, beside a database's tables.
+#[derive(Clone, Copy)]
+pub enum Needs {
+    /// Nothing.
+    Tables,
+    /// All of its modules.
+    Modules,
+}
 
-/// A context over a database.
-pub type FileContext<'a> = Context<'a, 'static, KeptModules<'static>>;
-
-/// A database that is loaded.
-pub struct Loaded {
+/// A database that is loaded. What is held of it lies in an arena, and stays there until the
+/// process ends.
+#[derive(Clone, Copy)]
+pub struct Loaded<'a> {
     /// The path of its file.
-    pub path: String,
-    /// The bytes of its file.
-    pub bytes: SharedBytes,
+    pub path: &'a str,
     /// What is held of it.
-    pub held: Held,
+    pub held: &'a Held,
+    /// Its modules.
+    pub modules: &'a KeptModules<'static>,
 }
 
-impl Drop for Loaded {
-    fn drop(self) {
-        let Loaded { path, bytes, held } = self;
-        drop(path);
-        drop(bytes);
-        drop(held);
+/// Reads all modules of a file.
+fn read_modules<F: FileExt + Drop>(
+    alloc: Global,
+    path: &str,
+    symbolizer: &mut FileSymbolizer<'_, F>,
+) -> Result<(), Fault> {
+    for _ in 0..TRIES {
+        symbolizer.ask_all();
+        match symbolizer.go_on(alloc) {
+            Ok(true) => {}
+            Ok(false) => return Ok(()),
+            Err(kind) => return Err(read_fault(alloc, path, kind)),
+        }
     }
+    Err(Fault::OutOfMemory)
 }
 
-/// The bytes of a file's pages.
-fn bytes_at(rt: &(impl Files + AllocGlobal), path: &str) -> Result<Vec<u8>, Fault> {
-    let mut file = match fs::open(rt, path) {
-        Ok(file) => file,
-        Err(error) => return Err(read_fault(rt.alloc(), path, error.kind())),
+/// A database by what was read of its file, and the file.
+fn loaded_by<'a, F: Drop>(
+    path: &'a str,
+    symbolizer: FileSymbolizer<'a, F>,
+) -> Result<(Loaded<'a>, FileOnDemand<'a, F>), Fault> {
+    let held = symbolizer.held();
+    let (source, context) = symbolizer.into_parts();
+    let Some(context) = context else {
+        return Err(Fault::OutOfMemory);
     };
-    match read_file(rt.alloc(), &mut file) {
-        Ok(bytes) => Ok(bytes),
-        Err(error) => Err(read_fault(rt.alloc(), path, error.kind())),
-    }
+    let modules = context.provider();
+    forget(context);
+    let loaded = Loaded {
+        path,
+        held,
+        modules,
+    };
+    Ok((loaded, source))
 }
 
-/// Loads the database of a file.
+/// Loads the database of a file, and returns the file too, with what was read of it.
 ///
 /// # Errors
 /// `Read`, `Load`, `OutOfMemory`.
-pub fn load(rt: &(impl Files + AllocGlobal), path: &str) -> Result<Loaded, Fault> {
-    let bytes = SharedBytes::new(bytes_at(rt, path)?)?;
-    let source = FileSource::whole(bytes.share()?);
-    let held = match load_file(rt.alloc(), source, ContributionOrder::Any) {
-        Ok(loaded) => {
-            let (file, held) = loaded.into_parts();
-            drop(file);
-            held
+pub fn load_file<'a, F: FileExt + Drop>(
+    alloc: Global,
+    path: &'a str,
+    source: FileOnDemand<'a, F>,
+    needs: Needs,
+) -> Result<(Loaded<'a>, FileOnDemand<'a, F>), Fault> {
+    let mut symbolizer = match FileSymbolizer::open(alloc, source) {
+        Ok(symbolizer) => symbolizer,
+        Err(NotLoaded { fault, source }) => {
+            drop(source);
+            return Err(file_fault(alloc, path, fault));
         }
-        Err(fault) => return Err(load_fault(rt.alloc(), path, fault)),
     };
-    Ok(Loaded {
-        path: String::from_str(rt.alloc(), path)?,
-        bytes,
-        held: ContextPdbData::from_held(held),
-    })
+    if matches!(needs, Needs::Modules) {
+        read_modules(alloc, path, &mut symbolizer)?;
+    }
+    loaded_by(path, symbolizer)
 }
 
-impl Loaded {
+/// Loads the database of the file at a path.
+///
+/// # Errors
+/// As [`load_file`].
+pub fn load<'a, S: Files + AllocGlobal>(
+    rt: &S,
+    arena: &'a Bump,
+    path: &'a str,
+    needs: Needs,
+) -> Result<Loaded<'a>, Fault>
+where
+    S::File: FileExt,
+{
+    let source = open(rt, arena, path)?;
+    let (loaded, source) = load_file(rt.alloc(), path, source, needs)?;
+    drop(source);
+    Ok(loaded)
+}
+
+impl<'a> Loaded<'a> {
     /// A context over the database.
     ///
     /// # Errors
     /// `Load` where its address map is out of order; `OutOfMemory`.
-    pub fn context(&self, alloc: Global) -> Result<FileContext<'_>, Fault> {
+    pub fn context(self, alloc: Global) -> Result<FileContext<'a>, Fault> {
         if !self.held.address_map().is_ordered() {
             let fault = LoadFault::AddressTableDecreases;
-            return Err(load_fault(alloc, self.path.as_str(), fault));
+            return Err(load_fault(alloc, self.path, fault));
         }
         let flags = TypeFormatterFlags::default();
         let order = ContributionOrder::Any;
-        match self.held.make_context_with_order(alloc, flags, order) {
-            Ok(context) => Ok(context),
-            Err(error) => Err(context_fault(alloc, self.path.as_str(), error)),
-        }
-    }
-
-    /// The names of the string table (`/names`); `None` where it can't be read.
-    ///
-    /// # Errors
-    /// `OutOfMemory`.
-    pub fn names(&self, alloc: Global) -> Result<Option<StringTable<'static>>, Fault> {
-        let source = FileSource::whole(self.bytes.share()?);
-        let table = match PDB::open(alloc, source) {
-            Ok(mut pdb) => pdb.string_table(alloc),
+        let made = match self.held.make_context_with_order(alloc, flags, order) {
+            Ok(context) => {
+                let parts = context.into_parts();
+                self.held.make_context_over(alloc, self.modules, parts)
+            }
             Err(error) => Err(error),
         };
-        match table {
-            Ok(names) => Ok(Some(names)),
-            Err(Error::OutOfMemory) => Err(Fault::OutOfMemory),
-            Err(_) => Ok(None),
+        match made {
+            Ok(context) => Ok(context),
+            Err(error) => Err(load_fault(alloc, self.path, LoadFault::from(error))),
         }
     }
+}
+
+/// The names of the string table (`/names`) by what was read of a file. What they lack is noted as
+/// wanted.
+fn names_read<F: Drop>(
+    alloc: Global,
+    source: &FileOnDemand<'_, F>,
+    wanted: &Wanted,
+) -> ReadResult<StringTable<'static>> {
+    let bytes = FileSource::of_views(alloc, &source.views, &source.contents, wanted)?;
+    match PDB::open(alloc, bytes) {
+        Ok(mut pdb) => pdb.string_table(alloc),
+        Err(error) => Err(error),
+    }
+}
+
+/// The names of the string table (`/names`) of a file that was loaded; `None` where they can't be
+/// read. Loading reads them.
+///
+/// # Errors
+/// `OutOfMemory`.
+fn names_of<F: Drop>(
+    alloc: Global,
+    source: &FileOnDemand<'_, F>,
+) -> Result<Option<StringTable<'static>>, Fault> {
+    let wanted = Wanted::new(alloc)?;
+    match names_read(alloc, source, &wanted) {
+        Ok(names) => Ok(Some(names)),
+        Err(Error::OutOfMemory) => Err(Fault::OutOfMemory),
+        Err(_) => Ok(None),
+    }
+}
+
+/// Loads the database of the file at a path, for all of its modules, and the names of its string
+/// table ([`names_of`]).
+///
+/// # Errors
+/// As [`load_file`].
+pub fn load_with_names<'a, S: Files + AllocGlobal>(
+    rt: &S,
+    arena: &'a Bump,
+    path: &'a str,
+) -> Result<(Loaded<'a>, Option<StringTable<'static>>), Fault>
+where
+    S::File: FileExt,
+{
+    let source = open(rt, arena, path)?;
+    let (loaded, source) = load_file(rt.alloc(), path, source, Needs::Modules)?;
+    let names = names_of(rt.alloc(), &source)?;
+    Ok((loaded, names))
 }

@@ -1,9 +1,10 @@
 //! The addresses of functions by their names.
 
 use crate::fault::Fault;
+use crate::functions::rows_of;
 use crate::loaded::Loaded;
-use crate::output::{Output, text_value};
-use pdb_function_lists::{FunctionRow, functions_named, list_functions};
+use crate::output::{Output, text_or_unknown};
+use pdb_function_lists::{FunctionRow, functions_named};
 use pdb_listings::{Column, Value};
 use std::alloc::Global;
 use std::io::Write;
@@ -55,17 +56,13 @@ fn asked_by(word: &str) -> Asked<'_> {
 
 /// Writes the row of a function.
 fn write_row<W: Write + Drop>(
-    alloc: Global,
     row: &FunctionRow,
     offset: u32,
     output: &mut Output<W>,
 ) -> Result<(), Fault> {
     let address = Value::Address(row.function.start_rva.saturating_add(offset));
-    let name = match &row.function.name {
-        Some(name) => text_value(alloc, name.as_str())?,
-        None => Value::Unknown,
-    };
-    output.row(COLUMNS, vec![in alloc; address, name]?)
+    let name = text_or_unknown(&row.function.name);
+    output.row(COLUMNS, &[address, name])
 }
 
 /// Writes the functions with a name, and returns whether there is one.
@@ -79,7 +76,7 @@ fn write_named<W: Write + Drop>(
     let marks = functions_named(alloc, rows, asked.name.as_bytes())?;
     for (row, mark) in rows.iter().zip(marks) {
         if mark {
-            write_row(alloc, row, asked.offset, output)?;
+            write_row(row, asked.offset, output)?;
             found = true;
         }
     }
@@ -93,13 +90,12 @@ fn write_named<W: Write + Drop>(
 /// Why not all are written.
 pub fn write<W: Write + Drop>(
     rt: &(impl Eprint + AllocGlobal),
-    loaded: &Loaded,
+    loaded: Loaded<'_>,
     names: &[String],
     output: &mut Output<W>,
 ) -> Result<bool, Fault> {
     let alloc = rt.alloc();
-    let mut context = loaded.context(alloc)?;
-    let rows = list_functions(alloc, loaded.context(alloc)?, &mut context)?;
+    let rows = rows_of(alloc, loaded)?;
     output.header(COLUMNS)?;
     let mut all = true;
     for name in names {

@@ -12,19 +12,24 @@ mod lines;
 mod loaded;
 mod locate;
 mod modules;
+mod opened_file;
 mod output;
 mod progress;
 mod sizes;
 mod sources;
 
 use arguments::{Given, Request, Task, read_arguments};
+use bumpalo::Bump;
 use fault::Fault;
-use loaded::load;
+use loaded::{Needs, load, load_with_names};
 use output::Output;
+use pdb_listings::largest_first;
 use progress::Progress;
-use std::alloc::Global;
+use sizes::sizes_at;
 use std::env;
 use std::io::{self, ErrorKind, IsTerminal, Write};
+use std::mem::forget;
+use std::os::unix::fs::FileExt;
 use std::process::ExitCode;
 use std::rt::{Env, Files};
 
@@ -80,15 +85,22 @@ fn end(rt: &impl Eprint, outcome: Result<bool, Fault>) -> ExitCode {
     }
 }
 
-/// Writes what is asked for, and returns whether all of it was found.
+/// Writes what is asked for, and returns whether all of it was found. What is held of databases is
+/// left to the process.
 fn run<S: Files + Eprint + AllocGlobal, W: Write + Drop, E: Write>(
     rt: &S,
     request: &Request,
     writer: W,
     progress: &mut Progress<E>,
-) -> Result<bool, Fault> {
+) -> Result<bool, Fault>
+where
+    S::File: FileExt,
+{
+    let arena = Bump::new(rt.alloc());
     let mut output = Output::new(rt.alloc(), writer, request.format);
-    let found = write_task(rt, request, &mut output, progress)?;
+    let found = write_task(rt, &arena, request, &mut output, progress);
+    forget(arena);
+    let found = found?;
     output.flush()?;
     Ok(found)
 }
@@ -96,33 +108,53 @@ fn run<S: Files + Eprint + AllocGlobal, W: Write + Drop, E: Write>(
 /// Writes the rows of a task, and returns whether all of what was asked for was found.
 fn write_task<S: Files + Eprint + AllocGlobal, W: Write + Drop, E: Write>(
     rt: &S,
+    arena: &Bump,
     request: &Request,
     output: &mut Output<W>,
     progress: &mut Progress<E>,
-) -> Result<bool, Fault> {
+) -> Result<bool, Fault>
+where
+    S::File: FileExt,
+{
+    let alloc = rt.alloc();
     let demangle = request.demangle;
     match &request.task {
         Task::Functions(file) => {
-            functions::write(rt.alloc(), &load(rt, file.as_str())?, demangle, output)?;
+            let loaded = load(rt, arena, file.as_str(), Needs::Modules)?;
+            functions::write(alloc, loaded, demangle, output)?;
         }
-        Task::Lines(file) => lines::write(rt.alloc(), &load(rt, file.as_str())?, output)?,
-        Task::Modules(file) => modules::write(rt.alloc(), &load(rt, file.as_str())?, output)?,
+        Task::Lines(file) => {
+            let loaded = load(rt, arena, file.as_str(), Needs::Modules)?;
+            lines::write(alloc, loaded, output)?;
+        }
+        Task::Modules(file) => {
+            let loaded = load(rt, arena, file.as_str(), Needs::Modules)?;
+            modules::write(alloc, loaded, output)?;
+        }
         Task::Sources(file, folders) => {
-            sources::write(rt, &load(rt, file.as_str())?, folders, output, progress)?;
+            let (loaded, names) = load_with_names(rt, arena, file.as_str())?;
+            sources::write(rt, loaded, &names, folders, output, progress)?;
         }
-        Task::Info(file, image) => info::write(rt, &load(rt, file.as_str())?, image, output)?,
+        Task::Info(file, image) => {
+            let (loaded, facts) = info::load_with_facts(rt, arena, file.as_str())?;
+            info::write(rt, loaded, facts, image, output)?;
+        }
         Task::Locate(file, names) => {
-            return locate::write(rt, &load(rt, file.as_str())?, names, output);
+            let loaded = load(rt, arena, file.as_str(), Needs::Modules)?;
+            return locate::write(rt, loaded, names, output);
         }
         Task::Sizes(file, options) => {
-            let loaded = load(rt, file.as_str())?;
-            sizes::write(rt.alloc(), &loaded, *options, demangle, output)?;
+            let mut sizes = sizes_at(rt, arena, file.as_str(), *options, demangle)?;
+            largest_first(&mut sizes)?;
+            sizes::write(&sizes, options.top, output)?;
         }
         Task::Diff(old, new, options) => {
-            let old = load(rt, old.as_str())?;
-            let new = load(rt, new.as_str())?;
-            let changes = diff::find_changes(rt.alloc(), &old, &new, *options, demangle, progress)?;
-            diff::write(rt.alloc(), changes, *options, output)?;
+            progress.over(old.as_str());
+            let old = sizes_at(rt, arena, old.as_str(), *options, demangle)?;
+            progress.over(new.as_str());
+            let new = sizes_at(rt, arena, new.as_str(), *options, demangle)?;
+            progress.end();
+            diff::write(alloc, &old, &new, options.top, output)?;
         }
     }
     Ok(true)

@@ -47,44 +47,6 @@ const COLUMNS: &[Column] = &[
     },
 ];
 
-/// The name of a module.
-///
-/// # Errors
-/// `AllocError` when memory runs out.
-pub fn name_of(alloc: Global, module: &Module<'_>) -> Result<String, AllocError> {
-    match module.module_name(alloc) {
-        Ok(name) => String::from_str(alloc, &name),
-        Err(_) => Err(AllocError),
-    }
-}
-
-/// The name of the file from which a module was linked.
-///
-/// # Errors
-/// `AllocError` when memory runs out.
-pub fn library_of(alloc: Global, module: &Module<'_>) -> Result<String, AllocError> {
-    match module.object_file_name(alloc) {
-        Ok(name) => String::from_str(alloc, &name),
-        Err(_) => Err(AllocError),
-    }
-}
-
-/// The compiler that made a module, if it is known.
-///
-/// # Errors
-/// `AllocError` when memory runs out.
-pub fn compiler(
-    alloc: Global,
-    loaded: &Loaded,
-    number: usize,
-    module: &Module<'_>,
-) -> Result<Option<String>, AllocError> {
-    match information_of(loaded, number, module)? {
-        Some(information) => compiler_of(alloc, information),
-        None => Ok(None),
-    }
-}
-
 /// How many bytes the parts of a module have.
 #[derive(Clone, Copy)]
 struct PartBytes {
@@ -94,93 +56,112 @@ struct PartBytes {
     zeroed: u64,
 }
 
-/// How many bytes a part of a module has.
-fn bytes_in(sizes: &ByteCounts<ModulePart>, module: u16, part: Part) -> u64 {
-    match sizes.by_answer().get(&ModulePart { module, part }) {
-        Some(bytes) => *bytes,
-        None => 0,
-    }
-}
-
-/// How many bytes the parts of a module have.
-fn bytes_of(sizes: &ByteCounts<ModulePart>, module: u16) -> PartBytes {
-    PartBytes {
-        code: bytes_in(sizes, module, Part::Code),
-        read_only: bytes_in(sizes, module, Part::ReadOnly),
-        written: bytes_in(sizes, module, Part::Written),
-        zeroed: bytes_in(sizes, module, Part::Zeroed),
-    }
-}
-
-/// How many bytes the parts have that are of no module, where there are `count` modules.
-fn bytes_of_none(sizes: &ByteCounts<ModulePart>, count: usize) -> PartBytes {
-    let mut sums = PartBytes {
-        code: 0,
-        read_only: 0,
-        written: 0,
-        zeroed: 0,
-    };
-    for (key, bytes) in sizes.by_answer() {
-        if usize::from(key.module) < count {
-            continue;
-        }
-        match key.part {
-            Part::Code => sums.code = sums.code.saturating_add(*bytes),
-            Part::ReadOnly => sums.read_only = sums.read_only.saturating_add(*bytes),
-            Part::Written => sums.written = sums.written.saturating_add(*bytes),
-            Part::Zeroed => sums.zeroed = sums.zeroed.saturating_add(*bytes),
-        }
-    }
-    sums
-}
-
 impl PartBytes {
+    /// Adds bytes of a part; at `u64::MAX` a sum stays.
+    fn add(&mut self, part: Part, bytes: u64) {
+        let sum = match part {
+            Part::Code => &mut self.code,
+            Part::ReadOnly => &mut self.read_only,
+            Part::Written => &mut self.written,
+            Part::Zeroed => &mut self.zeroed,
+        };
+        *sum = sum.saturating_add(bytes);
+    }
+
     /// Whether there are none.
     fn is_empty(self) -> bool {
         self.code == 0 && self.read_only == 0 && self.written == 0 && self.zeroed == 0
     }
 }
 
-/// Writes a row.
-fn write_row<W: Write + Drop>(
+/// How many bytes the parts of each of so many modules have, and, last, those of no module.
+fn bytes_of(
     alloc: Global,
+    sizes: &ByteCounts<ModulePart>,
+    modules: usize,
+) -> Result<Vec<PartBytes>, AllocError> {
+    let none = PartBytes {
+        code: 0,
+        read_only: 0,
+        written: 0,
+        zeroed: 0,
+    };
+    let mut parts = vec![in alloc; none; modules.saturating_add(1)]?;
+    for (key, bytes) in sizes.by_answer() {
+        let number = usize::from(key.module).min(modules);
+        if let Some(sums) = parts.get_mut(number) {
+            sums.add(key.part, *bytes);
+        }
+    }
+    Ok(parts)
+}
+
+/// The compiler that made a module, if it is known.
+///
+/// # Errors
+/// `AllocError` when memory runs out.
+pub fn compiler(
+    alloc: Global,
+    loaded: Loaded<'_>,
+    number: usize,
+    module: &Module<'_>,
+) -> Result<Option<String>, AllocError> {
+    match information_of(loaded, number, module)? {
+        Some(information) => compiler_of(alloc, information),
+        None => Ok(None),
+    }
+}
+
+/// Writes a row: the bytes of a module, its name, its library, and its compiler.
+fn write_row<'r, W: Write + Drop>(
     bytes: PartBytes,
-    (name, library, compiler): (String, Value, Option<String>),
+    name: Value<'r>,
+    library: Value<'r>,
+    compiler: Value<'r>,
     output: &mut Output<W>,
 ) -> Result<(), Fault> {
-    let values = vec![in alloc;
+    let values = [
         Value::Number(bytes.code),
         Value::Number(bytes.read_only),
         Value::Number(bytes.written),
         Value::Number(bytes.zeroed),
-        Value::Text(name),
+        name,
         library,
-        text_or_unknown(compiler),
-    ]?;
-    output.row(COLUMNS, values)
+        compiler,
+    ];
+    output.row(COLUMNS, &values)
+}
+
+/// A text as a value; unknown where it is empty.
+fn unless_empty(text: &str) -> Value<'_> {
+    if text.is_empty() {
+        Value::Unknown
+    } else {
+        Value::Text(text)
+    }
 }
 
 /// Writes the row of a module.
 fn write_module<W: Write + Drop>(
     alloc: Global,
-    loaded: &Loaded,
-    sizes: &ByteCounts<ModulePart>,
-    (number, module): (usize, &Module<'_>),
+    bytes: PartBytes,
+    module: &Module<'_>,
+    compiler: &Option<String>,
     output: &mut Output<W>,
 ) -> Result<(), Fault> {
-    let bytes = match u16::try_from(number) {
-        Ok(number) => bytes_of(sizes, number),
-        Err(_) => bytes_of_none(sizes, usize::MAX),
+    let Ok(name) = module.module_name(alloc) else {
+        return Err(Fault::OutOfMemory);
     };
-    let name = name_of(alloc, module)?;
-    let library = library_of(alloc, module)?;
-    let library = if library.is_empty() {
-        Value::Unknown
-    } else {
-        Value::Text(library)
+    let Ok(library) = module.object_file_name(alloc) else {
+        return Err(Fault::OutOfMemory);
     };
-    let compiler = compiler(alloc, loaded, number, module)?;
-    write_row(alloc, bytes, (name, library, compiler), output)
+    write_row(
+        bytes,
+        Value::Text(&name),
+        unless_empty(&library),
+        text_or_unknown(compiler),
+        output,
+    )
 }
 
 /// Writes the modules of a database with their bytes, and then what was contributed by no module,
@@ -190,19 +171,22 @@ fn write_module<W: Write + Drop>(
 /// Why not all are written.
 pub fn write<W: Write + Drop>(
     alloc: Global,
-    loaded: &Loaded,
+    loaded: Loaded<'_>,
     output: &mut Output<W>,
 ) -> Result<(), Fault> {
     let modules = modules_of(alloc, loaded)?;
-    let sizes = sizes_of_modules(alloc, loaded)?;
+    let parts = bytes_of(alloc, &sizes_of_modules(alloc, loaded)?, modules.len())?;
     output.header(COLUMNS)?;
-    for (number, module) in modules.iter().enumerate() {
-        write_module(alloc, loaded, &sizes, (number, module), output)?;
+    for (number, (module, bytes)) in modules.iter().zip(&parts).enumerate() {
+        let compiler = compiler(alloc, loaded, number, module)?;
+        write_module(alloc, *bytes, module, &compiler, output)?;
     }
-    let bytes = bytes_of_none(&sizes, modules.len());
+    let Some(bytes) = parts.last() else {
+        return Ok(());
+    };
     if bytes.is_empty() {
         return Ok(());
     }
-    let name = String::from_str(alloc, "(no module)")?;
-    write_row(alloc, bytes, (name, Value::Unknown, None), output)
+    let name = Value::Text("(no module)");
+    write_row(*bytes, name, Value::Unknown, Value::Unknown, output)
 }

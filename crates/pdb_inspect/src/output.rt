@@ -61,12 +61,12 @@ impl<W: Write + Drop> Output<W> {
     ///
     /// # Errors
     /// `Write`, `OutOfMemory`.
-    pub fn row(&mut self, columns: &[Column], values: Vec<Value>) -> Result<(), Fault> {
+    pub fn row(&mut self, columns: &[Column], values: &[Value<'_>]) -> Result<(), Fault> {
         let mut fields = Vec::new(self.alloc);
         for (column, value) in columns.iter().zip(values) {
             fields.push(Field {
                 column: *column,
-                value,
+                value: *value,
             })?;
         }
         append_row(self.alloc, &mut self.waiting, self.format, &fields)?;
@@ -77,24 +77,16 @@ impl<W: Write + Drop> Output<W> {
     }
 }
 
-/// A text as a value.
-///
-/// # Errors
-/// `OutOfMemory`.
-pub fn text_value(alloc: Global, text: &str) -> Result<Value, Fault> {
-    Ok(Value::Text(String::from_str(alloc, text)?))
-}
-
-/// A text that may be missing.
-pub fn text_or_unknown(text: Option<String>) -> Value {
+/// A text that may be missing, as a value.
+pub fn text_or_unknown(text: &Option<String>) -> Value<'_> {
     match text {
-        Some(text) => Value::Text(text),
+        Some(text) => Value::Text(text.as_str()),
         None => Value::Unknown,
     }
 }
 
-/// A number that may be missing.
-pub fn number_or_unknown(number: Option<u32>) -> Value {
+/// A number that may be missing, as a value.
+pub fn number_or_unknown(number: Option<u32>) -> Value<'static> {
     match number {
         Some(number) => Value::Number(u64::from(number)),
         None => Value::Unknown,
@@ -102,7 +94,7 @@ pub fn number_or_unknown(number: Option<u32>) -> Value {
 }
 
 /// The share of a part in a whole, in tenths of a percent.
-pub fn share_of(part: u64, whole: u64) -> Value {
+pub fn share_of(part: u64, whole: u64) -> Value<'static> {
     if whole == 0 {
         return Value::Share(0);
     }

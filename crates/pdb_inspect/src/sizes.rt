@@ -3,17 +3,17 @@
 use crate::arguments::{By, SizeOptions};
 use crate::contributions::{contributions_of, modules_of, sizes_of_modules};
 use crate::fault::Fault;
-use crate::loaded::Loaded;
-use crate::modules::{library_of, name_of};
-use crate::output::{Output, share_of, text_value};
+use crate::loaded::{Loaded, Needs, load};
+use crate::output::{Output, share_of};
+use bumpalo::Bump;
 use pdb_addresses::{AddressMap, ImageSectionHeader};
 use pdb_function_lists::{file_sizes, function_sizes, joined_sizes};
-use pdb_listings::{
-    ByteCounts, Column, Named, Size, Value, add_bytes, largest_first, listed, total_of,
-};
+use pdb_listings::{ByteCounts, Column, Named, Size, Value, add_bytes, listed, total_of};
 use pdb_symbols_modules::Module;
 use std::alloc::{AllocError, Global};
 use std::io::Write;
+use std::os::unix::fs::FileExt;
+use std::rt::Files;
 
 const COLUMNS: &[Column] = &[
     Column {
@@ -59,7 +59,7 @@ fn add(
 /// Bytes by function.
 fn by_function(
     alloc: Global,
-    loaded: &Loaded,
+    loaded: Loaded<'_>,
     undecorate: bool,
 ) -> Result<ByteCounts<Named>, Fault> {
     let context = loaded.context(alloc)?;
@@ -74,7 +74,7 @@ fn by_function(
 /// Bytes by function, where padding counts for the function before it in its contribution.
 fn by_function_joined(
     alloc: Global,
-    loaded: &Loaded,
+    loaded: Loaded<'_>,
     undecorate: bool,
 ) -> Result<ByteCounts<Named>, Fault> {
     let context = loaded.context(alloc)?;
@@ -83,7 +83,7 @@ fn by_function_joined(
 }
 
 /// Bytes by source file, or by its folder.
-fn by_file(alloc: Global, loaded: &Loaded, by_folder: bool) -> Result<ByteCounts<Named>, Fault> {
+fn by_file(alloc: Global, loaded: Loaded<'_>, by_folder: bool) -> Result<ByteCounts<Named>, Fault> {
     let context = loaded.context(alloc)?;
     let map = loaded.held.address_map();
     if !map.is_ordered() {
@@ -92,40 +92,49 @@ fn by_file(alloc: Global, loaded: &Loaded, by_folder: bool) -> Result<ByteCounts
     Ok(file_sizes(alloc, map, context, 0, end_of(map), by_folder)?)
 }
 
-/// The name that bytes of a module count for: its own, or that of its library.
-fn counted_name(
+/// Adds bytes of a module to its name, or to that of its library.
+fn add_module(
     alloc: Global,
+    table: &mut ByteCounts<Named>,
     module: Option<&Module<'_>>,
     by_library: bool,
-) -> Result<String, AllocError> {
+    bytes: u64,
+) -> Result<(), AllocError> {
     let Some(module) = module else {
-        return String::from_str(alloc, "(no module)");
+        return add(alloc, table, "(no module)", bytes);
     };
-    if !by_library {
-        return name_of(alloc, module);
+    let name = if by_library {
+        module.object_file_name(alloc)
+    } else {
+        module.module_name(alloc)
+    };
+    let Ok(name) = name else {
+        return Err(AllocError);
+    };
+    if by_library && name.is_empty() {
+        return add(alloc, table, "(no library)", bytes);
     }
-    let library = library_of(alloc, module)?;
-    if library.is_empty() {
-        return String::from_str(alloc, "(no library)");
-    }
-    Ok(library)
+    add(alloc, table, &name, bytes)
 }
 
 /// Bytes that modules contribute, by the module or by its library.
-fn by_module(alloc: Global, loaded: &Loaded, by_library: bool) -> Result<ByteCounts<Named>, Fault> {
+fn by_module(
+    alloc: Global,
+    loaded: Loaded<'_>,
+    by_library: bool,
+) -> Result<ByteCounts<Named>, Fault> {
     let mut table = ByteCounts::new(alloc);
     let modules = modules_of(alloc, loaded)?;
     let sizes = sizes_of_modules(alloc, loaded)?;
     for (key, bytes) in sizes.by_answer() {
         let module = modules.get(usize::from(key.module));
-        let name = counted_name(alloc, module, by_library)?;
-        add(alloc, &mut table, name.as_str(), *bytes)?;
+        add_module(alloc, &mut table, module, by_library, *bytes)?;
     }
     Ok(table)
 }
 
 /// Bytes that are contributed to sections.
-fn by_section(alloc: Global, loaded: &Loaded) -> Result<ByteCounts<Named>, Fault> {
+fn by_section(alloc: Global, loaded: Loaded<'_>) -> Result<ByteCounts<Named>, Fault> {
     let mut table = ByteCounts::new(alloc);
     let headers = loaded.held.address_map().image_section_headers();
     for contribution in contributions_of(alloc, loaded)? {
@@ -148,12 +157,9 @@ fn section_name(headers: &[ImageSectionHeader], number: usize) -> &str {
 }
 
 /// The sizes of a database, in the order of their names.
-///
-/// # Errors
-/// Why they can't be counted.
-pub fn sizes_of(
+fn sizes_of(
     alloc: Global,
-    loaded: &Loaded,
+    loaded: Loaded<'_>,
     options: SizeOptions,
     undecorate: bool,
 ) -> Result<Vec<Size>, Fault> {
@@ -169,43 +175,65 @@ pub fn sizes_of(
     Ok(listed(alloc, &table)?)
 }
 
+/// What sizes are counted over.
+fn needs_of(by: By) -> Needs {
+    match by {
+        By::Function | By::File | By::Folder => Needs::Modules,
+        By::Module | By::Library | By::Section => Needs::Tables,
+    }
+}
+
+/// The sizes of the database of the file at a path, in the order of their names.
+///
+/// # Errors
+/// Why they can't be counted.
+pub fn sizes_at<'a, S: Files + AllocGlobal>(
+    rt: &S,
+    arena: &'a Bump,
+    path: &'a str,
+    options: SizeOptions,
+    undecorate: bool,
+) -> Result<Vec<Size>, Fault>
+where
+    S::File: FileExt,
+{
+    let loaded = load(rt, arena, path, needs_of(options.by))?;
+    sizes_of(rt.alloc(), loaded, options, undecorate)
+}
+
 /// Writes a row.
 fn write_row<W: Write + Drop>(
-    alloc: Global,
-    (bytes, total, name): (u64, u64, &str),
+    bytes: u64,
+    total: u64,
+    name: &str,
     output: &mut Output<W>,
 ) -> Result<(), Fault> {
     let share = share_of(bytes, total);
-    let name = text_value(alloc, name)?;
-    output.row(COLUMNS, vec![in alloc; Value::Number(bytes), share, name]?)
+    output.row(COLUMNS, &[Value::Number(bytes), share, Value::Text(name)])
 }
 
-/// Writes the sizes of a database, the largest first; in lines for people then those that are left
-/// out, and the total.
+/// Writes sizes, the largest first; in lines for people then those that are left out where only
+/// `top` are written, and the total.
 ///
 /// # Errors
 /// Why not all are written.
 pub fn write<W: Write + Drop>(
-    alloc: Global,
-    loaded: &Loaded,
-    options: SizeOptions,
-    undecorate: bool,
+    sizes: &[Size],
+    top: Option<usize>,
     output: &mut Output<W>,
 ) -> Result<(), Fault> {
-    let mut sizes = sizes_of(alloc, loaded, options, undecorate)?;
-    let total = total_of(&sizes);
-    largest_first(&mut sizes)?;
-    let count = options.top.unwrap_or(sizes.len()).min(sizes.len());
+    let total = total_of(sizes);
+    let count = top.unwrap_or(sizes.len()).min(sizes.len());
     let (listed, others) = sizes.split_at(count);
     output.header(COLUMNS)?;
     for size in listed {
-        write_row(alloc, (size.bytes, total, size.name.as_str()), output)?;
+        write_row(size.bytes, total, size.name.as_str(), output)?;
     }
     if !output.is_text() {
         return Ok(());
     }
     if !others.is_empty() {
-        write_row(alloc, (total_of(others), total, "(others)"), output)?;
+        write_row(total_of(others), total, "(others)", output)?;
     }
-    write_row(alloc, (total, total, "(total)"), output)
+    write_row(total, total, "(total)", output)
 }

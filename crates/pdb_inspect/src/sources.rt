@@ -3,8 +3,9 @@
 use crate::contributions::{information_of, modules_of};
 use crate::fault::Fault;
 use crate::loaded::Loaded;
-use crate::output::{Output, text_value};
+use crate::output::Output;
 use crate::progress::Progress;
+use pdb_container::StringTable;
 use pdb_listings::{Column, SourceFile, StoredSum, Value, Verdict, append_sources, verdict_of};
 use std::alloc::{AllocError, Global};
 use std::fs::{self, OpenFile};
@@ -45,15 +46,19 @@ fn sum_key(sum: &StoredSum) -> (u8, &[u8]) {
 }
 
 /// The source files of all modules, by path, and each with each of its checksums once.
-fn all_sources(alloc: Global, loaded: &Loaded) -> Result<Vec<SourceFile>, Fault> {
+fn all_sources(
+    alloc: Global,
+    loaded: Loaded<'_>,
+    names: &Option<StringTable<'_>>,
+) -> Result<Vec<SourceFile>, Fault> {
     let mut sources = Vec::new(alloc);
-    let Some(names) = loaded.names(alloc)? else {
+    let Some(names) = names else {
         return Ok(sources);
     };
     let modules = modules_of(alloc, loaded)?;
     for (number, module) in modules.iter().enumerate() {
         if let Some(module) = information_of(loaded, number, module)? {
-            append_sources(alloc, &names, module, &mut sources)?;
+            append_sources(alloc, names, module, &mut sources)?;
         }
     }
     sources.sort_by(|a: &SourceFile, b: &SourceFile| {
@@ -172,20 +177,19 @@ fn verdict_by(
 /// Why not all are written.
 pub fn write<W: Write + Drop, E: Write>(
     rt: &(impl Files + AllocGlobal),
-    loaded: &Loaded,
+    loaded: Loaded<'_>,
+    names: &Option<StringTable<'_>>,
     folders: &[String],
     output: &mut Output<W>,
     progress: &mut Progress<E>,
 ) -> Result<(), Fault> {
-    let alloc = rt.alloc();
-    let sources = all_sources(alloc, loaded)?;
+    let sources = all_sources(rt.alloc(), loaded, names)?;
     output.header(COLUMNS)?;
     for (done, source) in sources.iter().enumerate() {
         progress.files(done, sources.len());
         let verdict = verdict_by(rt, source, folders)?;
-        let word = text_value(alloc, word_of(verdict))?;
-        let path = text_value(alloc, source.path.as_str())?;
-        output.row(COLUMNS, vec![in alloc; word, path]?)?;
+        let word = Value::Text(word_of(verdict));
+        output.row(COLUMNS, &[word, Value::Text(source.path.as_str())])?;
     }
     progress.end();
     Ok(())

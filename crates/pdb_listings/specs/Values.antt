@@ -1,6 +1,6 @@
 -- The texts of values: for people, in CSV, and in JSON.
 use Rattle.std.specs.Prelude.{ℕ, Bool, true, false, ◌-◌, ◌/◌, ◌%◌, ◌==◌, ◌||◌, ◌++◌, List, []}
-use Rattle.std.specs.Prelude.{◌∷◌, codes, length, string_bytes, if◌then◌else◌}
+use Rattle.std.specs.Prelude.{◌∷◌, codes, length, if◌then◌else◌}
 use Rattle.std.specs.Fmt.{decimal}
 use Rattle.std.specs.List.{flat_map, list_any, repeat}
 use Rattle.pdb_owners.specs.Texts.{eight_digits}
@@ -29,7 +29,7 @@ plain_value (values.Number n) = decimal n
 plain_value (values.Address a) = address_text a
 plain_value (values.Change rose n) = sign_text rose ++ decimal n
 plain_value (values.Share n) = tenths_text n ++ codes "%"
-plain_value (values.Text text) = string_bytes text
+plain_value (values.Text text) = text.now
 
 -- a text with blanks before it, up to a width
 abbrev pub padded : ℕ → List ℕ → List ℕ
@@ -64,18 +64,18 @@ bare_value (values.Number n) = decimal n
 bare_value (values.Address a) = address_text a
 bare_value (values.Change rose n) = minus_text rose ++ decimal n
 bare_value (values.Share n) = tenths_text n
-bare_value (values.Text text) = string_bytes text
+bare_value (values.Text text) = text.now
 
 -- a value in CSV
 abbrev pub csv_value : Value → List ℕ
-csv_value (values.Text text) = csv_text (string_bytes text)
+csv_value (values.Text text) = csv_text text.now
 csv_value value = bare_value value
 
 -- a value in JSON
 abbrev pub json_value : Value → List ℕ
 json_value values.Unknown = codes "null"
 json_value (values.Address a) = string_text (address_text a)
-json_value (values.Text text) = string_text (string_bytes text)
+json_value (values.Text text) = string_text text.now
 json_value value = bare_value value
 
 -- a field in a line for people

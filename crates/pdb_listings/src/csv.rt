@@ -58,11 +58,15 @@ pub(crate) fn append_csv_text(output: &mut Vec<u8>, text: &str) -> Result<(), Al
 }
 
 /// Appends a value.
-fn append_csv_value(alloc: Global, output: &mut Vec<u8>, value: &Value) -> Result<(), AllocError>
+fn append_csv_value(
+    alloc: Global,
+    output: &mut Vec<u8>,
+    value: &Value<'_>,
+) -> Result<(), AllocError>
     ensures { OnOk result (output.new.items ≡ output.old.items ++ csv_value value.now) }
 {
     if let Value::Text(text) = value {
-        return append_csv_text(output, text.as_str());
+        return append_csv_text(output, text);
     }
     let text = bare_string(alloc, value)?;
     append(output, text.as_str())
@@ -72,7 +76,7 @@ fn append_csv_value(alloc: Global, output: &mut Vec<u8>, value: &Value) -> Resul
 pub(crate) fn append_csv_field(
     alloc: Global,
     output: &mut Vec<u8>,
-    field: &Field,
+    field: &Field<'_>,
 ) -> Result<(), AllocError>
     ensures { OnOk result (output.new.items ≡ output.old.items ++ csv_field field.now) }
 {

@@ -64,7 +64,11 @@ fn append_string(output: &mut Vec<u8>, text: &str) -> Result<(), AllocError>
 }
 
 /// Appends a value.
-fn append_json_value(alloc: Global, output: &mut Vec<u8>, value: &Value) -> Result<(), AllocError>
+fn append_json_value(
+    alloc: Global,
+    output: &mut Vec<u8>,
+    value: &Value<'_>,
+) -> Result<(), AllocError>
     ensures { OnOk result (output.new.items ≡ output.old.items ++ json_value value.now) }
 {
     if let Value::Unknown = value {
@@ -81,7 +85,7 @@ fn append_json_value(alloc: Global, output: &mut Vec<u8>, value: &Value) -> Resu
 pub(crate) fn append_json_field(
     alloc: Global,
     output: &mut Vec<u8>,
-    field: &Field,
+    field: &Field<'_>,
 ) -> Result<(), AllocError>
     ensures { OnOk result (output.new.items ≡ output.old.items ++ json_field field.now) }
 {

@@ -55,7 +55,7 @@ pub(crate) fn tenths_string(alloc: Global, tenths: u64) -> Result<String, AllocE
 }
 
 /// The text of a value without quotes.
-pub(crate) fn bare_string(alloc: Global, value: &Value) -> Result<String, AllocError>
+pub(crate) fn bare_string(alloc: Global, value: &Value<'_>) -> Result<String, AllocError>
     ensures { IfOk result (λ text. string_bytes text ≡ bare_value value.now) }
 {
     let mut text = String::new(alloc);
@@ -65,13 +65,13 @@ pub(crate) fn bare_string(alloc: Global, value: &Value) -> Result<String, AllocE
         Value::Address(address) => write!(text, "0x{address:08x}")?,
         Value::Change(false, by) => write!(text, "-{by}")?,
         Value::Share(tenths) => return tenths_string(alloc, *tenths),
-        Value::Text(given) => text.push_str(given.as_str())?,
+        Value::Text(given) => text.push_str(given)?,
     }
     Ok(text)
 }
 
 /// The text of a value in a line for people.
-fn plain_string(alloc: Global, value: &Value) -> Result<String, AllocError>
+fn plain_string(alloc: Global, value: &Value<'_>) -> Result<String, AllocError>
     ensures { IfOk result (λ text. string_bytes text ≡ plain_value value.now) }
 {
     let mut text = String::new(alloc);
@@ -91,7 +91,7 @@ fn plain_string(alloc: Global, value: &Value) -> Result<String, AllocError>
 pub(crate) fn append_plain_field(
     alloc: Global,
     output: &mut Vec<u8>,
-    field: &Field,
+    field: &Field<'_>,
 ) -> Result<(), AllocError>
     ensures { OnOk result (output.new.items ≡ output.old.items ++ plain_field field.now) }
 {

@@ -24,7 +24,7 @@ pub enum Format {
 
 /// Appends fields of a line for people.
 #[tactic(auto, using(crate::proofs::Lists::text_more, crate::proofs::Lists::text_all))]
-fn append_plain(alloc: Global, output: &mut Vec<u8>, fields: &[Field]) -> Result<(), AllocError>
+fn append_plain(alloc: Global, output: &mut Vec<u8>, fields: &[Field<'_>]) -> Result<(), AllocError>
     ensures { OnOk result (output.new.items ≡ output.old.items ++ flat_map plain_field fields.now) }
 {
     for field in fields {
@@ -34,7 +34,7 @@ fn append_plain(alloc: Global, output: &mut Vec<u8>, fields: &[Field]) -> Result
 }
 
 /// Appends fields of CSV.
-fn append_csv(alloc: Global, output: &mut Vec<u8>, fields: &[Field]) -> Result<(), AllocError>
+fn append_csv(alloc: Global, output: &mut Vec<u8>, fields: &[Field<'_>]) -> Result<(), AllocError>
     ensures { OnOk result (output.new.items ≡ output.old.items ++ joined csv_field fields.now) }
 {
     let Some((first, rest)) = fields.split_first() else {
@@ -46,7 +46,11 @@ fn append_csv(alloc: Global, output: &mut Vec<u8>, fields: &[Field]) -> Result<(
 
 /// Appends fields of CSV after the first.
 #[tactic(auto, using(crate::proofs::Lists::text_more, crate::proofs::Lists::text_all))]
-fn append_more_csv(alloc: Global, output: &mut Vec<u8>, fields: &[Field]) -> Result<(), AllocError>
+fn append_more_csv(
+    alloc: Global,
+    output: &mut Vec<u8>,
+    fields: &[Field<'_>],
+) -> Result<(), AllocError>
     ensures { OnOk result (output.new.items
         ≡ output.old.items ++ flat_map (λ f. 44 ∷ csv_field f) fields.now) }
 {
@@ -58,7 +62,7 @@ fn append_more_csv(alloc: Global, output: &mut Vec<u8>, fields: &[Field]) -> Res
 }
 
 /// Appends members of an object.
-fn append_json(alloc: Global, output: &mut Vec<u8>, fields: &[Field]) -> Result<(), AllocError>
+fn append_json(alloc: Global, output: &mut Vec<u8>, fields: &[Field<'_>]) -> Result<(), AllocError>
     ensures { OnOk result (output.new.items ≡ output.old.items ++ joined json_field fields.now) }
 {
     let Some((first, rest)) = fields.split_first() else {
@@ -70,7 +74,11 @@ fn append_json(alloc: Global, output: &mut Vec<u8>, fields: &[Field]) -> Result<
 
 /// Appends members of an object after the first.
 #[tactic(auto, using(crate::proofs::Lists::text_more, crate::proofs::Lists::text_all))]
-fn append_more_json(alloc: Global, output: &mut Vec<u8>, fields: &[Field]) -> Result<(), AllocError>
+fn append_more_json(
+    alloc: Global,
+    output: &mut Vec<u8>,
+    fields: &[Field<'_>],
+) -> Result<(), AllocError>
     ensures { OnOk result (output.new.items
         ≡ output.old.items ++ flat_map (λ f. 44 ∷ json_field f) fields.now) }
 {
@@ -89,7 +97,7 @@ pub fn append_row(
     alloc: Global,
     output: &mut Vec<u8>,
     format: Format,
-    fields: &[Field],
+    fields: &[Field<'_>],
 ) -> Result<(), AllocError>
     ensures { OnOk result (output.new.items ≡ output.old.items ++ row_text format fields.now) }
 {

@@ -1,8 +1,8 @@
 //! Values, and the columns that they stand in.
 
 /// A value of a row.
-#[derive(Debug, Drop, PartialEq)]
-pub enum Value {
+#[derive(Clone, Copy, Debug, PartialEq)]
+pub enum Value<'v> {
     /// It isn't known.
     Unknown,
     /// A number, in decimal digits.
@@ -14,7 +14,7 @@ pub enum Value {
     /// A share of a whole, in tenths of a percent.
     Share(u64),
     /// A text.
-    Text(String),
+    Text(&'v str),
 }
 
 /// A column of a listing.
@@ -29,10 +29,10 @@ pub struct Column {
 }
 
 /// A value in a column.
-#[derive(Debug, Drop, PartialEq)]
-pub struct Field {
+#[derive(Clone, Copy, Debug, PartialEq)]
+pub struct Field<'v> {
     /// The column.
     pub column: Column,
     /// The value.
-    pub value: Value,
+    pub value: Value<'v>,
 }
