@@ -1,32 +1,15 @@
--- What a context answers by keys, functions and source files; and functions with their places.
+-- Functions with their places.
 use Rattle.std.specs.Prelude.{ℕ, ◌-◌, List, length, option_and_then, option_map}
 use Rattle.std.specs.Prelude.{Option, None, Some, Result, Ok, Err, slice_get, string_bytes}
 use Rattle.pdb_addr2line.specs.Context.{Context, scope_in}
-use Rattle.pdb_frames.specs.Files.{files_keyed}
-use Rattle.pdb_frames.specs.Keys.{keyed_of}
-use Rattle.pdb_owners.specs.Databases.{Keyed}
-use Rattle.pdb_owners.specs.FileAnswers.{FileAnswer}
 use Rattle.pdb_owners.specs.Frames.{Frame, FunctionFrames}
 use Rattle.pdb_owners.specs.FunctionOrder.{Function}
-use Rattle.pdb_owners.specs.declared.file_key.FileKey.{FileKey}
-use Rattle.pdb_owners.specs.declared.function_key.FunctionKey.{FunctionKey}
 use Rattle.pdb_frames.specs.FramesAt.{frames}
 use Rattle.pdb_frames.specs.Scopes.{entries_of}
 use Rattle.pdb_addr2line.specs.FunctionList.{AreFunctions}
 use Rattle.pdb_function_lists.specs.declared.functions.FunctionRow.{FunctionRow}
 use Rattle.pdb_resolving.specs.Fault.{Fault}
 use Rattle.pdb_resolving.specs.Resolving.{Provided}
-
--- the functions of a context at places, by keys
-abbrev pub functions_keyed : {P : Type 0} → (P → Provided) → Context P
-    → Keyed FunctionKey Function
-functions_keyed provided c = keyed_of c.parts (scope_in provided c)
-
--- the files of a context at places, by keys
-abbrev pub files_by_key : {P : Type 0} → (P → Provided) → Context P → Keyed FileKey FileAnswer
-files_by_key provided c = files_keyed c.parts (scope_in provided c)
-
--- ---- functions with their places
 
 -- the function's own frame among those at an address: the last one, if they can be read
 abbrev pub own_frame : Result (Option FunctionFrames) Fault → Option Frame

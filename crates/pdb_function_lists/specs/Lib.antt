@@ -1,3 +1,4 @@
 pub mod Functions
 pub mod NamedFunctions
+pub mod NamedSizes
 pub mod Runs

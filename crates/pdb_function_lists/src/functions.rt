@@ -2,8 +2,8 @@
 
 ghost use Rattle.std.specs.Prelude.{◌≡◌, List, IfOk, Ok, Option, map, option_map};
 ghost use Rattle.std.specs.Prelude.{Result as Answer};
-ghost use Rattle.pdb_addr2line.specs.Context.{lasting, scope_in};
-ghost use Rattle.pdb_frames.specs.FramesAt.{frames};
+ghost use Rattle.pdb_addr2line.specs.Context.{lasting};
+ghost use Rattle.pdb_addr2line.specs.ContextAnswers.{answer_of};
 ghost use Rattle.pdb_owners.specs.Frames.{FunctionFrames as FramesFound};
 ghost use Rattle.pdb_owners.specs.FunctionOrder.{Function as FunctionValue};
 ghost use Rattle.pdb_function_lists.specs.Functions.{AreListed, own_frame, row_by, row_in};
@@ -104,7 +104,7 @@ fn frames_found<'a, P: ModuleProvider>(
 ) -> Result<Option<FunctionFrames<'a>>, AllocError>
     ensures same { lasting context.new ≡ lasting context.old }
     ensures frames { IfOk result (λ found. own_frame (Ok found)
-        ≡ own_frame (frames context.old.parts (scope_in P.provided context.old) address)) }
+        ≡ own_frame (answer_of P.provided context.old address)) }
 {
     if_readable(context.find_frames(alloc, address))
 }

@@ -28,13 +28,13 @@ impl<'a, 's, P: ModuleProvider> FunctionRuns<'a, 's, P> {
 }
 
 impl<'a, 's, P: ModuleProvider> Runs for FunctionRuns<'a, 's, P> {
-    ghost use Rattle.pdb_function_lists.specs.Functions.{functions_keyed};
+    ghost use Rattle.pdb_addr2line.specs.ContextAnswers.{keyed_in};
 
     type Key = FunctionKey;
 
     type Found = Function;
 
-    ghost keyed = { λ runs. functions_keyed P.provided runs.context };
+    ghost keyed = { λ runs. keyed_in P.provided runs.context };
 
     ghost lookups = { λ runs. runs.context.lookups };
 
@@ -85,13 +85,13 @@ impl<'a, 's, P: ModuleProvider> FileRuns<'a, 's, P> {
 }
 
 impl<'a, 's, P: ModuleProvider> Runs for FileRuns<'a, 's, P> {
-    ghost use Rattle.pdb_function_lists.specs.Functions.{files_by_key};
+    ghost use Rattle.pdb_addr2line.specs.ContextAnswers.{files_keyed_in};
 
     type Key = FileKey;
 
     type Found = CountedFile;
 
-    ghost keyed = { λ runs. files_by_key P.provided runs.context };
+    ghost keyed = { λ runs. files_keyed_in P.provided runs.context };
 
     ghost lookups = { λ runs. runs.context.lookups };
 

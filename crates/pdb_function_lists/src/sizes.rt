@@ -1,16 +1,12 @@
 //! Bytes by function and by source file.
 
-ghost use Rattle.std.specs.Prelude.{◌≡◌, ℕ, ◌-◌, ◌^◌, ◌<◌, ◌≤◌, Bool, true, false, List, IfOk, OnOk};
-ghost use Rattle.std.specs.Prelude.{◌+◌, if◌then◌else◌};
+ghost use Rattle.std.specs.Prelude.{◌≡◌, ◌+◌, ◌<◌, ◌≤◌, ◌^◌, false};
+ghost use Rattle.pdb_addr2line.specs.ContextAnswers.{files_keyed_in, keyed_in};
 ghost use Rattle.pdb_addresses.specs.Addresses.{IsOrdered};
-ghost use Rattle.pdb_owners.specs.Answers.{picked};
-ghost use Rattle.pdb_owners.specs.Counts.{counted_at, how_many};
-ghost use Rattle.pdb_owners.specs.FileAnswers.{FileAnswer as FileValue};
-ghost use Rattle.pdb_owners.specs.FunctionOrder.{Function as FunctionValue};
-ghost use Rattle.pdb_owners.specs.Table.{sum_found, sum_of, sum_where};
-ghost use Rattle.pdb_owners.specs.Texts.{text_or};
-ghost use Rattle.pdb_function_lists.specs.Functions.{files_by_key, functions_keyed};
-ghost use Rattle.pdb_listings.specs.Sizes.{file_name as name_of_file};
+ghost use Rattle.pdb_function_lists.specs.NamedSizes.{AddsBytes, AddsNamed, CountsBytes};
+ghost use Rattle.pdb_function_lists.specs.NamedSizes.{CountsNamed, SumsBytes, SumsNamed};
+ghost use Rattle.pdb_function_lists.specs.NamedSizes.{file_named, function_named};
+ghost use Rattle.pdb_owners.specs.Table.{sum_of};
 
 use crate::counting::count_keys;
 use crate::keyed_runs::{FileRuns, FunctionRuns};
@@ -31,14 +27,11 @@ fn add_function<P: ModuleProvider>(
     undecorate: bool,
 ) -> Result<(), AllocError>
     requires room { sum_of table.old + bytes < 2 ^ 64 }
-    ensures each { undecorate ≡ false → OnOk result ((test : List ℕ → Bool) → sum_where test table.new
-        ≡ sum_where test table.old + (if picked (λ (f : FunctionValue). test (text_or f.name))
-        ((functions_keyed P.provided runs.old.context).answer_of key.now) then bytes else 0)) }
-    ensures total { OnOk result (sum_of table.new ≡ sum_of table.old
-        + (if picked (λ _. true) ((functions_keyed P.provided runs.old.context).answer_of key.now)
-        then bytes else 0)) }
-    ensures same { functions_keyed P.provided runs.new.context
-        ≡ functions_keyed P.provided runs.old.context }
+    ensures each { undecorate ≡ false → AddsNamed function_named
+        (keyed_in P.provided runs.old.context) key.now bytes table.old table.new result }
+    ensures total { AddsBytes (keyed_in P.provided runs.old.context) key.now bytes
+        table.old table.new result }
+    ensures same { keyed_in P.provided runs.new.context ≡ keyed_in P.provided runs.old.context }
 {
     match runs.answer_of(alloc, key)? {
         None => Ok(()),
@@ -57,11 +50,9 @@ pub(crate) fn name_functions<P: ModuleProvider>(
     keys: &ByteCounts<FunctionKey>,
     undecorate: bool,
 ) -> Result<ByteCounts<Named>, AllocError>
-    ensures each { undecorate ≡ false → IfOk result (λ table. (test : List ℕ → Bool)
-        → sum_where test table ≡ sum_found (functions_keyed P.provided runs.old.context).answer_of
-        (λ (f : FunctionValue). test (text_or f.name)) keys.now) }
-    ensures total { IfOk result (λ table. sum_of table
-        ≡ sum_found (functions_keyed P.provided runs.old.context).answer_of (λ _. true) keys.now) }
+    ensures each { undecorate ≡ false → SumsNamed function_named
+        (keyed_in P.provided runs.old.context) keys.now result }
+    ensures total { SumsBytes (keyed_in P.provided runs.old.context) keys.now result }
 {
     let mut table = ByteCounts::new(alloc);
     let _total = keys.total();
@@ -81,14 +72,12 @@ fn add_file<P: ModuleProvider>(
     by_folder: bool,
 ) -> Result<(), AllocError>
     requires room { sum_of table.old + bytes < 2 ^ 64 }
-    ensures each { by_folder ≡ false → OnOk result ((test : List ℕ → Bool) → sum_where test table.new
-        ≡ sum_where test table.old + (if picked (λ (f : FileValue). test (name_of_file f))
-        ((files_by_key P.provided runs.old.context).answer_of key.now) then bytes else 0)) }
-    ensures total { OnOk result (sum_of table.new ≡ sum_of table.old
-        + (if picked (λ _. true) ((files_by_key P.provided runs.old.context).answer_of key.now)
-        then bytes else 0)) }
-    ensures same { files_by_key P.provided runs.new.context
-        ≡ files_by_key P.provided runs.old.context }
+    ensures each { by_folder ≡ false → AddsNamed file_named
+        (files_keyed_in P.provided runs.old.context) key.now bytes table.old table.new result }
+    ensures total { AddsBytes (files_keyed_in P.provided runs.old.context) key.now bytes
+        table.old table.new result }
+    ensures same { files_keyed_in P.provided runs.new.context
+        ≡ files_keyed_in P.provided runs.old.context }
 {
     match runs.answer_of(alloc, key)? {
         None => Ok(()),
@@ -104,11 +93,9 @@ fn name_files<P: ModuleProvider>(
     keys: &ByteCounts<FileKey>,
     by_folder: bool,
 ) -> Result<ByteCounts<Named>, AllocError>
-    ensures each { by_folder ≡ false → IfOk result (λ table. (test : List ℕ → Bool)
-        → sum_where test table ≡ sum_found (files_by_key P.provided runs.old.context).answer_of
-        (λ (f : FileValue). test (name_of_file f)) keys.now) }
-    ensures total { IfOk result (λ table. sum_of table
-        ≡ sum_found (files_by_key P.provided runs.old.context).answer_of (λ _. true) keys.now) }
+    ensures each { by_folder ≡ false → SumsNamed file_named
+        (files_keyed_in P.provided runs.old.context) keys.now result }
+    ensures total { SumsBytes (files_keyed_in P.provided runs.old.context) keys.now result }
 {
     let mut table = ByteCounts::new(alloc);
     let _total = keys.total();
@@ -133,13 +120,9 @@ pub fn function_sizes<P: ModuleProvider>(
 ) -> Result<ByteCounts<Named>, AllocError>
     requires ordered { IsOrdered map.now }
     requires order { start ≤ end }
-    ensures each { undecorate ≡ false → IfOk result (λ table. (test : List ℕ → Bool)
-        → sum_where test table ≡ how_many (λ a. picked (λ (f : FunctionValue).
-        test (text_or f.name)) (counted_at map.now (functions_keyed P.provided context.entry).places
-        a)) start (end - start)) }
-    ensures total { IfOk result (λ table. sum_of table ≡ how_many (λ a. picked (λ _. true)
-        (counted_at map.now (functions_keyed P.provided context.entry).places a)) start
-        (end - start)) }
+    ensures each { undecorate ≡ false → CountsNamed function_named map.now
+        (keyed_in P.provided context.entry) start end result }
+    ensures total { CountsBytes map.now (keyed_in P.provided context.entry) start end result }
 {
     let mut runs = FunctionRuns::new(context);
     let keys = count_keys(alloc, map, &mut runs, start, end)?;
@@ -162,13 +145,9 @@ pub fn file_sizes<P: ModuleProvider>(
 ) -> Result<ByteCounts<Named>, AllocError>
     requires ordered { IsOrdered map.now }
     requires order { start ≤ end }
-    ensures each { by_folder ≡ false → IfOk result (λ table. (test : List ℕ → Bool)
-        → sum_where test table ≡ how_many (λ a. picked (λ (f : FileValue). test (name_of_file f))
-        (counted_at map.now (files_by_key P.provided context.entry).places a)) start
-        (end - start)) }
-    ensures total { IfOk result (λ table. sum_of table ≡ how_many (λ a. picked (λ _. true)
-        (counted_at map.now (files_by_key P.provided context.entry).places a)) start
-        (end - start)) }
+    ensures each { by_folder ≡ false → CountsNamed file_named map.now
+        (files_keyed_in P.provided context.entry) start end result }
+    ensures total { CountsBytes map.now (files_keyed_in P.provided context.entry) start end result }
 {
     let mut runs = FileRuns::new(context);
     let keys = count_keys(alloc, map, &mut runs, start, end)?;

@@ -1,13 +1,13 @@
 use Rattle.std.proofs.Common.{◌-◌, ap, true}
 use Rattle.pdb_owners.specs.FileAnswers.{FileAnswer}
 use Rattle.pdb_listings.specs.Sizes.{file_name}
-use Rattle.pdb_function_lists.specs.Functions.{files_by_key}
+use Rattle.pdb_addr2line.specs.ContextAnswers.{files_keyed_in}
 use Rattle.pdb_function_lists.proofs.Sums.{if_ok_then, sum_counted}
 use Rattle.pdb_function_lists.proofs.sizes.file_sizes.Goals as goal
 
 pub returns-clause-each : goal.returns-clause-each
 returns-clause-each g c whole =
-    let keyed = files_by_key g.P.ModuleProvider.provided in
+    let keyed = files_keyed_in g.P.ModuleProvider.provided in
     if_ok_then c.name_files.result _ _
     (λ table each test. sum_counted (keyed c.args.context) (keyed c.new-runs.result.context) (keyed c.count_keys.new.runs.context) c.args.map.now
     c.args.start (c.args.end - c.args.start) (λ (f : FileAnswer). test (file_name f)) c.in_ok-keys.keys _
@@ -16,7 +16,7 @@ returns-clause-each g c whole =
 
 pub returns-clause-total : goal.returns-clause-total
 returns-clause-total g c =
-    let keyed = files_by_key g.P.ModuleProvider.provided in
+    let keyed = files_keyed_in g.P.ModuleProvider.provided in
     if_ok_then c.name_files.result _ _
     (λ table total. sum_counted (keyed c.args.context) (keyed c.new-runs.result.context) (keyed c.count_keys.new.runs.context) c.args.map.now
     c.args.start (c.args.end - c.args.start) (λ (f : FileAnswer). true) c.in_ok-keys.keys _

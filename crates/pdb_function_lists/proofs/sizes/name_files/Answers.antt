@@ -2,13 +2,13 @@ use Rattle.std.proofs.Common.{◌∙◌, true}
 use Rattle.pdb_owners.specs.Answers.{picked}
 use Rattle.pdb_owners.specs.FileAnswers.{FileAnswer}
 use Rattle.pdb_listings.specs.Sizes.{file_name}
-use Rattle.pdb_function_lists.specs.Functions.{files_by_key}
+use Rattle.pdb_addr2line.specs.ContextAnswers.{files_keyed_in}
 use Rattle.pdb_function_lists.proofs.Sums.{entry_added, entry_room}
 use Rattle.pdb_function_lists.proofs.sizes.name_files.Goals as goal
 
 pub loop-key-preserved : goal.loop-key-preserved
 loop-key-preserved g c =
-    let keyed = files_by_key g.P.ModuleProvider.provided in
+    let keyed = files_keyed_in g.P.ModuleProvider.provided in
     let kd = keyed c.args.runs.now.context in
     let now = keyed c.loop-key.runs.context in
     let i = c.loop-key.invariant in

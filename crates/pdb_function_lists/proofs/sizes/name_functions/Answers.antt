@@ -2,13 +2,13 @@ use Rattle.std.proofs.Common.{◌∙◌, true}
 use Rattle.pdb_owners.specs.Answers.{picked}
 use Rattle.pdb_owners.specs.FunctionOrder.{Function}
 use Rattle.pdb_owners.specs.Texts.{text_or}
-use Rattle.pdb_function_lists.specs.Functions.{functions_keyed}
+use Rattle.pdb_addr2line.specs.ContextAnswers.{keyed_in}
 use Rattle.pdb_function_lists.proofs.Sums.{entry_added, entry_room}
 use Rattle.pdb_function_lists.proofs.sizes.name_functions.Goals as goal
 
 pub loop-key-preserved : goal.loop-key-preserved
 loop-key-preserved g c =
-    let keyed = functions_keyed g.P.ModuleProvider.provided in
+    let keyed = keyed_in g.P.ModuleProvider.provided in
     let kd = keyed c.args.runs.now.context in
     let now = keyed c.loop-key.runs.context in
     let i = c.loop-key.invariant in

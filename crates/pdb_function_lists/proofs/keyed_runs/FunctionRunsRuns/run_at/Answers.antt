@@ -1,6 +1,6 @@
 use Rattle.std.proofs.Common.{ap}
-use Rattle.pdb_function_lists.specs.Functions.{functions_keyed}
+use Rattle.pdb_addr2line.specs.ContextAnswers.{keyed_in}
 use Rattle.pdb_function_lists.proofs.keyed_runs.FunctionRunsRuns.run_at.Goals as goal
 
 pub returns-clause-same : goal.returns-clause-same
-returns-clause-same g c = ap (functions_keyed g.P.ModuleProvider.provided) c.find_key_run.ensures.same
+returns-clause-same g c = ap (keyed_in g.P.ModuleProvider.provided) c.find_key_run.ensures.same

@@ -1,0 +1,68 @@
+-- Bytes by the names of functions or of source files.
+use Rattle.std.specs.Prelude.{◌≡◌, ℕ, ◌+◌, ◌-◌, Bool, true, List, Result, IfOk, OnOk}
+use Rattle.std.specs.Prelude.{if◌then◌else◌}
+use Rattle.pdb_addresses.specs.Addresses.{Map}
+use Rattle.pdb_owners.specs.Answers.{picked}
+use Rattle.pdb_owners.specs.Counts.{counted_at, how_many}
+use Rattle.pdb_owners.specs.Databases.{Keyed}
+use Rattle.pdb_owners.specs.FileAnswers.{FileAnswer}
+use Rattle.pdb_owners.specs.FunctionOrder.{Function}
+use Rattle.pdb_owners.specs.Table.{sum_found, sum_of, sum_where}
+use Rattle.pdb_owners.specs.Texts.{text_or}
+use Rattle.pdb_listings.specs.Sizes.{file_name}
+
+-- ---- names
+
+-- a test of names, of the stored name of a function
+abbrev pub function_named : (List ℕ → Bool) → Function → Bool
+function_named test f = test (text_or f.name)
+
+-- and of the path of a source file
+abbrev pub file_named : (List ℕ → Bool) → FileAnswer → Bool
+file_named test f = test (file_name f)
+
+-- bytes by names
+abbrev pub Table : Type 0
+Table = List (List ℕ × ℕ)
+
+-- ---- one key more
+
+-- Bytes were added to the name of the answer that a key stands for, if there is one, and to no
+-- other name.
+abbrev pub AddsNamed : {K A T E : Type 0} → ((List ℕ → Bool) → A → Bool) → Keyed K A → K → ℕ
+    → Table → Table → Result T E → Type 0
+AddsNamed named keyed key bytes old new result = OnOk result ((test : List ℕ → Bool)
+    → sum_where test new
+    ≡ sum_where test old + (if picked (named test) (keyed.answer_of key) then bytes else 0))
+
+-- Bytes were added if a key stands for an answer.
+abbrev pub AddsBytes : {K A T E : Type 0} → Keyed K A → K → ℕ → Table → Table → Result T E → Type 0
+AddsBytes keyed key bytes old new result = OnOk result
+    (sum_of new ≡ sum_of old + (if picked (λ _. true) (keyed.answer_of key) then bytes else 0))
+
+-- ---- the answers of keys
+
+-- The bytes by name are those of the keys whose answers have the name.
+abbrev pub SumsNamed : {K A E : Type 0} → ((List ℕ → Bool) → A → Bool) → Keyed K A → List (K × ℕ)
+    → Result Table E → Type 0
+SumsNamed named keyed keys result = IfOk result (λ table. (test : List ℕ → Bool)
+    → sum_where test table ≡ sum_found keyed.answer_of (named test) keys)
+
+-- The bytes are those of the keys that have an answer.
+abbrev pub SumsBytes : {K A E : Type 0} → Keyed K A → List (K × ℕ) → Result Table E → Type 0
+SumsBytes keyed keys result =
+    IfOk result (λ table. sum_of table ≡ sum_found keyed.answer_of (λ _. true) keys)
+
+-- ---- the addresses of a range
+
+-- The bytes by name are how many addresses of a range have an answer of the name.
+abbrev pub CountsNamed : {K A E : Type 0} → ((List ℕ → Bool) → A → Bool) → Map → Keyed K A → ℕ → ℕ
+    → Result Table E → Type 0
+CountsNamed named m keyed start end result = IfOk result (λ table. (test : List ℕ → Bool)
+    → sum_where test table
+    ≡ how_many (λ a. picked (named test) (counted_at m keyed.places a)) start (end - start))
+
+-- The bytes are how many addresses of a range have an answer.
+abbrev pub CountsBytes : {K A E : Type 0} → Map → Keyed K A → ℕ → ℕ → Result Table E → Type 0
+CountsBytes m keyed start end result = IfOk result (λ table. sum_of table
+    ≡ how_many (λ a. picked (λ _. true) (counted_at m keyed.places a)) start (end - start))
