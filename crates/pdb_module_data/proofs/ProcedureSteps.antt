@@ -13,7 +13,7 @@ use Rattle.pdb_symbol_records.specs.Forms.{SymbolForm}
 use Rattle.pdb_symbol_records.specs.Kinds.{is_public, is_procedure, is_thunk, is_separated_code, is_inline_site}
 use Rattle.pdb_symbol_records.specs.Records.{as_form, end_form, form_of, symbol_form_of}
 use Rattle.pdb_symbol_records.specs.Symbols.{Symbol, kind_of}
-use Rattle.pdb_module_data.specs.Procedures.{Procedure, is_procedure_kind, said_procedure, kept_of, kept_before, kept_behind, is_at, place_cmp, has_start, onto_new, firsts_onto, procedures_of}
+use Rattle.pdb_module_data.specs.Procedures.{Procedure, is_procedure_kind, said_procedure, with_code, kept_of, kept_before, kept_behind, is_at, place_cmp, has_start, onto_new, firsts_onto, procedures_of}
 
 -- ---- symbols of other kinds
 
@@ -74,6 +74,12 @@ pub kept_passed : (procedures : List Procedure) (last : Option Procedure) (x : S
     → left ≡ before x others → kept_of last x ≡ None → procedures_left procedures last left ≡ total → procedures_left procedures last others ≡ total
 kept_passed procedures last x left others total step kept so_far =
     sym (not_here procedures last x others.items others.fault kept) ∙ sym (ap (procedures_left procedures last) step) ∙ so_far
+
+-- a symbol more, of another kind
+pub plain_passed : (procedures : List Procedure) (last : Option Procedure) (x : Symbol) (left others : Listing Symbol) (total : Result (List Procedure) Fault)
+    → left ≡ before x others → is_procedure_kind (kind_of x) ≡ false → procedures_left procedures last left ≡ total → procedures_left procedures last others ≡ total
+plain_passed procedures last x left others total step plain so_far =
+    kept_passed procedures last x left others total step (ap with_code (no_procedure last x plain)) so_far
 
 -- symbols that ended well
 pub kept_end : (procedures : List Procedure) (last : Option Procedure) (left : Listing Symbol) (total : Result (List Procedure) Fault) → left ≡ ending None → procedures_left procedures last left ≡ total → total ≡ Ok procedures

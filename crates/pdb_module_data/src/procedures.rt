@@ -179,6 +179,9 @@ pub fn read_procedures<'t>(alloc: Global, mut symbols: SymbolIter<'t>) -> Result
     let mut procedures = Vec::new(alloc);
     let mut last = None;
     while let Some(symbol) = symbols.next()? {
+        if !may_be_procedure(symbol.raw_kind()) {
+            continue;
+        }
         if let Some(procedure) = kept_procedure(last.as_ref(), &symbol) {
             last = Some(same(&procedure));
             push_new(&mut starts, &mut procedures, procedure)?;
