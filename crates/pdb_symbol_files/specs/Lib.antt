@@ -9,6 +9,7 @@ pub mod PieceRecords
 pub mod CommonCalls
 pub mod Lookup
 pub mod Reading
+pub mod PlainAnswers
 pub mod Output
 pub mod Code
 pub mod ToldRanges

@@ -1,10 +1,11 @@
 //! The laws of symbol files: functions that do nothing, whose contracts are proved.
 
-ghost use Rattle.std.specs.Prelude.{ℕ, List};
+ghost use Rattle.std.specs.Prelude.{ℕ, List, ◌<◌, ◌^◌, length};
 ghost use Rattle.std.specs.Str.{IsUtf8};
 ghost use Rattle.pdb_symbol_files.specs.Lookup.{HasTwoRoads, IsAscending};
+ghost use Rattle.pdb_symbol_files.specs.PlainAnswers.{ArePlainAnswers, AreCountable, MakesPlain};
 ghost use Rattle.pdb_symbol_files.specs.Reading.{ArePlain, IsPlain, ReadsBack};
-ghost use Rattle.pdb_symbol_files.specs.Records.{SymbolRecords};
+ghost use Rattle.pdb_symbol_files.specs.Records.{SymbolRecords, symbol_records};
 ghost use Rattle.pdb_symbol_files.specs.Texts.{text_of};
 ghost use Rattle.pdb_symbol_files.specs.Told.{Answer};
 
@@ -26,4 +27,12 @@ pub fn reads_back()
 /// No name or file that is told has a control character, a line break among them.
 pub fn plain_texts()
     ensures { (text : List ℕ) → IsUtf8 text → IsPlain (text_of text) }
+{}
+
+/// The law of plain records: where no name or file that is told has a control character, and fewer
+/// than 2^64 files and inlined functions are told, no record has either; so its text reads back.
+pub fn plain_records()
+    ensures plain { (answers : List Answer) → MakesPlain answers }
+    ensures back { (answers : List Answer) → ArePlainAnswers answers → length answers < 2 ^ 64
+        → AreCountable (symbol_records answers) → ReadsBack (symbol_records answers) }
 {}

@@ -48,12 +48,15 @@ pub trait ToldRuns {
     ghost known: { Self → Type 0 };
     // what is told of an address, where that is known
     ghost told: { Self → ℕ → Option ToldOf };
+    // the bytes of the file by which it is told
+    ghost file: { Self → List ℕ };
 
     /// Makes ready for so many addresses, before the first of them is asked for. Nothing that is
     /// told depends on it. An implementation that doesn't need it leaves it out.
     fn prepare(&mut self, _addresses: u64)
         ensures grows { known self.new → known self.old }
         ensures same { told self.new ≡ told self.old }
+        ensures file { file self.new ≡ file self.old }
     {}
 
     /// What is told of an address, and over how many from there on, before `end`, the same is.
@@ -68,7 +71,8 @@ pub trait ToldRuns {
             → a < address + run.count → told self.old a ≡ run.told) }
         ensures grows { known self.new → known self.old }
         // Asking changes nothing that is told.
-        ensures same { told self.new ≡ told self.old };
+        ensures same { told self.new ≡ told self.old }
+        ensures file { file self.new ≡ file self.old };
 }
 
 /// Adds a run from an address on.
@@ -97,6 +101,7 @@ fn add_range<R: ToldRuns>(
 ) -> Result<(), ToldFault>
     ensures grows { R.known runs.new → R.known runs.old }
     ensures same { R.told runs.new ≡ R.told runs.old }
+    ensures file { R.file runs.new ≡ R.file runs.old }
     ensures added { R.known runs.new → (answers : List Answer) → AreOf records.old answers
         → OnOk result (AreOf records.new (answers
         ++ answers_along (R.told runs.old) range.start (range.end - range.start))) }
@@ -119,6 +124,7 @@ fn records_of_ranges<R: ToldRuns>(
 ) -> Result<FunctionRecords, ToldFault>
     ensures grows { R.known runs.new → R.known runs.old }
     ensures same { R.told runs.new ≡ R.told runs.old }
+    ensures file { R.file runs.new ≡ R.file runs.old }
     ensures of { R.known runs.new → IfOk result
         (λ records. AreOf records (answers_of_ranges (R.told runs.old) ranges.now)) }
 {
@@ -143,6 +149,7 @@ pub fn append_functions<R: ToldRuns>(
 ) -> Result<String, ToldFault>
     ensures grows { R.known runs.new → R.known runs.old }
     ensures same { R.told runs.new ≡ R.told runs.old }
+    ensures file { R.file runs.new ≡ R.file runs.old }
     ensures numbers { R.known runs.new → OnOk result (string_bytes output.new
         ≡ string_bytes output.old
         ++ numbers_text (symbol_records (answers_of_code sections.now (R.told runs.old)))) }

@@ -2,3 +2,5 @@ pub mod AddressRuns
 pub mod ToldSteps
 pub mod WritingSteps
 pub mod NamedSteps
+pub mod HeadSteps
+pub mod MakingSteps

@@ -2,8 +2,8 @@
 use Rattle.std.proofs.Common.{◌≡◌, ◌∙◌, ℕ, zero, suc, ◌+◌, ◌-◌, ◌<◌, ◌≤◌, List, [], ◌∷◌, ◌++◌, true}
 use Rattle.std.proofs.Common.{false, refl, sym, ap, subst, arith, append_assoc, append-nil, length}
 use Rattle.std.proofs.Common.{length-append, length-drop, take, drop, get_or, take-append-drop, take_all}
-use Rattle.std.proofs.Common.{cond, eqb, inl, inr}
-use Rattle.std.specs.Prelude.{◌==◌, not, Bool, Option, Some, Result, Ok, Err, OnErr, OnOk, codes}
+use Rattle.std.proofs.Common.{cond, inl, inr}
+use Rattle.std.specs.Prelude.{◌==◌, not, Bool, Option, Result, Ok, Err, OnErr, OnOk, codes}
 use Rattle.std.specs.List.{All, prefix_len}
 use Rattle.std.specs.Io.KnownBytes.{Appends}
 use Rattle.std.proofs.KnownBytes.{Appends-nil, Appends-trans}

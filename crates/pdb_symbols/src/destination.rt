@@ -1,16 +1,18 @@
 //! Where a symbol file is written.
 
+ghost use Rattle.std.specs.Prelude.{IfErr};
+ghost use Rattle.pdb_symbols.specs.Ends.{FailsToWrite};
+
 use crate::fault::SymbolsFault;
-use crate::file_told::{FileTold, text_on_demand};
 use crate::image::read_image;
-use crate::memory_told::{MemoryTold, text_in_memory};
+use crate::making::{Destination, write_in_memory};
+use crate::making_on_demand::{OnDemand, write_on_demand};
 use crate::options::{Options, Target};
 use crate::progress::Progress;
-use crate::writing::{FileText, describe, head_of, write_symbols_text};
 use bumpalo::Bump;
-use pdb_databases::{ContributionOrder, FileOnDemand, FileSymbolizer, NotLoaded, Symbolizer};
+use pdb_databases::{ContributionOrder, FileOnDemand};
 use pdb_file_views::reach;
-use pdb_image::{Image, PdbIdentity};
+use pdb_image::PdbIdentity;
 use pdb_loading::read_file;
 use std::alloc::{AllocError, Global};
 use std::fs;
@@ -60,55 +62,103 @@ fn store_path(
 }
 
 /// Where a write failed.
-fn write_fault<T>(outcome: io::Result<T>) -> Result<T, SymbolsFault> {
+fn write_fault<T>(outcome: io::Result<T>) -> Result<T, SymbolsFault>
+    ensures { IfErr result FailsToWrite }
+{
     match outcome {
         Ok(done) => Ok(done),
         Err(error) => Err(SymbolsFault::of_write(error.kind())),
     }
 }
 
-/// Writes a symbol file to a path: beside it, and once it is whole it is renamed.
-fn write_beside<S: Files + AllocGlobal>(
+/// A file that is written beside the path that it is to have.
+#[derive(Drop)]
+struct Beside<F: Drop> {
+    file: F,
+    /// Its path while it is written.
+    beside: String,
+    /// The path that it has once it is whole.
+    path: String,
+}
+
+/// Where a symbol file is written: to an output, or beside the path of a file, to which it is
+/// renamed once it is whole.
+#[derive(Drop)]
+struct Place<F: Drop, W: Drop> {
+    output: W,
+    /// The file, once it was opened.
+    opened: Option<Beside<F>>,
+}
+
+impl<F: Write + Drop, W: Write + Drop> Write for Place<F, W> {
+    fn write(&mut self, buf: &[u8]) -> io::Result<usize> {
+        match &mut self.opened {
+            Some(opened) => opened.file.write(buf),
+            None => self.output.write(buf),
+        }
+    }
+
+    fn flush(&mut self) -> io::Result<()> {
+        match &mut self.opened {
+            Some(opened) => opened.file.flush(),
+            None => self.output.flush(),
+        }
+    }
+}
+
+/// Opens a file beside the path that it is to have.
+fn open_beside<S: Files + AllocGlobal>(
     rt: &S,
-    path: &str,
-    demangle: bool,
-    text: &FileText,
-    image: Option<&Image<'_>>,
-) -> Result<(), SymbolsFault> {
+    path: String,
+) -> Result<Beside<S::File>, SymbolsFault>
+    ensures { IfErr result FailsToWrite }
+{
     let beside = format!(in rt.alloc(); "{path}.part")?;
-    let mut file = write_fault(fs::create(rt, beside.as_str()))?;
-    let written = write_symbols_text(rt.alloc(), text, demangle, image, &mut file);
+    let file = write_fault(fs::create(rt, beside.as_str()))?;
+    Ok(Beside { file, beside, path })
+}
+
+impl<S: Files + AllocGlobal, W: Write + Drop> Destination<S> for Place<S::File, W> {
+    fn open(
+        &mut self,
+        rt: &S,
+        options: &Options,
+        identity: &PdbIdentity,
+    ) -> Result<(), SymbolsFault> {
+        let path = match &options.target {
+            Target::Output => return Ok(()),
+            Target::File(path) => path.clone()?,
+            Target::Store(store) => {
+                let (store, file) = (store.as_str(), options.file.as_str());
+                let (folder, path) = store_path(rt.alloc(), store, file, identity)?;
+                write_fault(fs::create_dir_all(rt, folder.as_str()))?;
+                path
+            }
+        };
+        self.opened = Some(open_beside(rt, path)?);
+        Ok(())
+    }
+}
+
+/// Ends what was written: a file that is whole is renamed, and any other is removed.
+fn end<S: Files + AllocGlobal>(
+    rt: &S,
+    opened: Option<Beside<S::File>>,
+    written: Result<(), SymbolsFault>,
+) -> Result<(), SymbolsFault> {
+    let Some(opened) = opened else {
+        return written;
+    };
+    let Beside { file, beside, path } = opened;
     drop(file);
     let outcome = match written {
-        Ok(()) => write_fault(fs::rename(rt, beside.as_str(), path)),
+        Ok(()) => write_fault(fs::rename(rt, beside.as_str(), path.as_str())),
         Err(fault) => Err(fault),
     };
     if outcome.is_err() {
         let _ = fs::remove_file(rt, beside.as_str());
     }
     outcome
-}
-
-/// Writes a symbol file to where it is asked for.
-fn write_to<S: Files + AllocGlobal, W: Write>(
-    rt: &S,
-    options: &Options,
-    identity: &PdbIdentity,
-    text: &FileText,
-    image: Option<&Image<'_>>,
-    output: &mut W,
-) -> Result<(), SymbolsFault> {
-    let demangle = options.demangle;
-    match &options.target {
-        Target::Output => write_symbols_text(rt.alloc(), text, demangle, image, output),
-        Target::File(path) => write_beside(rt, path.as_str(), demangle, text, image),
-        Target::Store(store) => {
-            let file = options.file.as_str();
-            let (folder, path) = store_path(rt.alloc(), store.as_str(), file, identity)?;
-            write_fault(fs::create_dir_all(rt, folder.as_str()))?;
-            write_beside(rt, path.as_str(), demangle, text, image)
-        }
-    }
 }
 
 /// Reads a file from its beginning on.
@@ -131,53 +181,9 @@ fn image_bytes<S: Files + AllocGlobal>(
     }
 }
 
-/// The image in the bytes of its file, if it is given.
-fn image_in(bytes: &Option<Vec<u8>>) -> Result<Option<Image<'_>>, SymbolsFault> {
-    match bytes {
-        Some(bytes) => Ok(Some(Image::parse(bytes.as_slice())?)),
-        None => Ok(None),
-    }
-}
-
-/// Writes a symbol file by a database's file that is read on demand.
-fn write_on_demand<S: Files + AllocGlobal, F: FileExt + Drop, W: Write, E: Write + Drop>(
-    rt: &S,
-    options: &Options,
-    source: FileOnDemand<'_, F>,
-    output: &mut W,
-    progress: Progress<E>,
-) -> Result<(), SymbolsFault> {
-    let mut symbolizer = match FileSymbolizer::open(rt.alloc(), source) {
-        Ok(symbolizer) => symbolizer,
-        Err(NotLoaded { fault, source }) => {
-            drop(source);
-            return Err(SymbolsFault::from(fault));
-        }
-    };
-    let identity = symbolizer.identity(rt.alloc())?;
-    let database = describe(rt.alloc(), symbolizer.held(), identity)?;
-    let bytes = image_bytes(rt, options)?;
-    let image = image_in(&bytes)?;
-    let head = head_of(rt.alloc(), options, &database, image.as_ref())?;
-    let mut runs = FileTold {
-        symbolizer,
-        inlines: options.inlines,
-        progress,
-    };
-    let text = text_on_demand(rt.alloc(), head, database.sections.as_slice(), &mut runs)?;
-    write_to(
-        rt,
-        options,
-        &database.identity,
-        &text,
-        image.as_ref(),
-        output,
-    )
-}
-
 /// Writes a symbol file by a database's file of `size` bytes, which is read on demand. The process
 /// is left to give its memory back.
-fn write_by_views<S: Files + AllocGlobal, F: FileExt + Drop, W: Write, E: Write + Drop>(
+fn write_by_views<S: Files + AllocGlobal, F: FileExt + Drop, W: Destination<S>, E: Write + Drop>(
     rt: &S,
     options: &Options,
     file: F,
@@ -189,45 +195,17 @@ fn write_by_views<S: Files + AllocGlobal, F: FileExt + Drop, W: Write, E: Write 
         Ok(size) => size,
         Err(error) => return Err(SymbolsFault::of_file(&error)),
     };
+    let image = image_bytes(rt, options)?;
+    let image = image.as_ref().map(|bytes: &Vec<u8>| bytes.as_slice());
     let arena = Bump::new(rt.alloc());
     let mut source = FileOnDemand::new(rt.alloc(), &arena, file, size)?;
     source.order = ContributionOrder::Any;
-    let outcome = write_on_demand(rt, options, source, output, progress);
+    let OnDemand { outcome, source } = write_on_demand(
+        rt, options, source, image, output, progress,
+    );
+    drop(source);
     forget(arena);
     outcome
-}
-
-/// Writes a symbol file by the bytes of a database's file. The process is left to give its memory
-/// back.
-fn write_by_bytes<S: Files + AllocGlobal, W: Write, E: Write + Drop>(
-    rt: &S,
-    options: &Options,
-    bytes: Vec<u8>,
-    output: &mut W,
-    progress: Progress<E>,
-) -> Result<(), SymbolsFault> {
-    let symbolizer = Symbolizer::open_with_order(rt.alloc(), bytes, ContributionOrder::Any)?;
-    let identity = symbolizer.identity(rt.alloc())?;
-    let database = describe(rt.alloc(), symbolizer.held(), identity)?;
-    let given = image_bytes(rt, options)?;
-    let image = image_in(&given)?;
-    let head = head_of(rt.alloc(), options, &database, image.as_ref())?;
-    let context = symbolizer.context(rt.alloc())?;
-    let mut runs = MemoryTold {
-        symbolizer: &symbolizer,
-        context,
-        inlines: options.inlines,
-        progress,
-    };
-    let text = text_in_memory(rt.alloc(), head, database.sections.as_slice(), &mut runs)?;
-    write_to(
-        rt,
-        options,
-        &database.identity,
-        &text,
-        image.as_ref(),
-        output,
-    )
 }
 
 /// Opens the database's file.
@@ -241,10 +219,7 @@ fn open_file<S: Files + AllocGlobal>(rt: &S, path: &str) -> Result<S::File, Symb
 
 /// Writes the symbol file that is asked for, by its database's file: a regular one is read on
 /// demand, any other from its beginning on.
-///
-/// # Errors
-/// Why it isn't written.
-pub fn write_symbols<S: Files + AllocGlobal, W: Write, E: Write + Drop>(
+fn write_by_file<S: Files + AllocGlobal, W: Destination<S>, E: Write + Drop>(
     rt: &S,
     options: &Options,
     output: &mut W,
@@ -254,9 +229,34 @@ where
     S::File: FileExt,
 {
     let mut file = open_file(rt, options.file.as_str())?;
-    let Some(size) = size_of(&file) else {
-        let bytes = read_bytes(rt.alloc(), &mut file)?;
-        return write_by_bytes(rt, options, bytes, output, progress);
+    if let Some(size) = size_of(&file) {
+        return write_by_views(rt, options, file, size, output, progress);
+    }
+    let bytes = read_bytes(rt.alloc(), &mut file)?;
+    let image = image_bytes(rt, options)?;
+    let image = image.as_ref().map(|bytes: &Vec<u8>| bytes.as_slice());
+    write_in_memory(rt, options, bytes, image, output, progress)
+}
+
+/// Writes the symbol file that is asked for to where it is asked for, or to `output`.
+///
+/// # Errors
+/// Why it isn't written.
+pub fn write_symbols<S: Files + AllocGlobal, W: Write + Drop, E: Write + Drop>(
+    rt: &S,
+    options: &Options,
+    output: W,
+    progress: Progress<E>,
+) -> Result<(), SymbolsFault>
+where
+    S::File: FileExt,
+{
+    let mut place = Place {
+        output,
+        opened: None,
     };
-    write_by_views(rt, options, file, size, output, progress)
+    let written = write_by_file(rt, options, &mut place, progress);
+    let Place { output, opened } = place;
+    drop(output);
+    end(rt, opened, written)
 }

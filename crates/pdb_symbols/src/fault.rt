@@ -1,5 +1,10 @@
 //! Why a symbol file isn't written.
 
+ghost use Rattle.std.specs.Prelude.{◌≡◌};
+ghost use Rattle.pdb_loading.specs.declared.load_fault.LoadFault.TheVariants as load_faults;
+ghost use Rattle.pdb_symbols.specs.Ends.{FailsToWrite, IsFaultOfFile, IsReadFault};
+ghost use Rattle.pdb_symbols.specs.declared.fault.SymbolsFault.TheVariants as ends;
+
 use pdb_container::kind_name;
 use pdb_image::ImageError;
 use pdb_loading::{FileFault, LoadFault};
@@ -46,7 +51,9 @@ impl fmt::Display for SymbolsFault {
 
 impl SymbolsFault {
     /// Out of memory.
-    pub fn out_of_memory() -> SymbolsFault {
+    pub fn out_of_memory() -> SymbolsFault
+        ensures { result ≡ ends.Load load_faults.OutOfMemory }
+    {
         SymbolsFault::Load(LoadFault::OutOfMemory)
     }
 
@@ -59,7 +66,9 @@ impl SymbolsFault {
     }
 
     /// Why an output couldn't be written.
-    pub fn of_write(kind: ErrorKind) -> SymbolsFault {
+    pub fn of_write(kind: ErrorKind) -> SymbolsFault
+        ensures { FailsToWrite result }
+    {
         match kind {
             ErrorKind::OutOfMemory => SymbolsFault::out_of_memory(),
             kind => SymbolsFault::Write(kind),
@@ -68,18 +77,24 @@ impl SymbolsFault {
 }
 
 impl From<AllocError> for SymbolsFault {
+    ghost from_gives = { λ _ e. e ≡ ends.Load load_faults.OutOfMemory };
+
     fn from(_cause: AllocError) -> SymbolsFault {
         SymbolsFault::out_of_memory()
     }
 }
 
 impl From<LoadFault> for SymbolsFault {
+    ghost from_gives = { λ cause e. e ≡ ends.Load cause };
+
     fn from(cause: LoadFault) -> SymbolsFault {
         SymbolsFault::Load(cause)
     }
 }
 
 impl From<FileFault> for SymbolsFault {
+    ghost from_gives = { λ cause e. IsFaultOfFile cause e };
+
     fn from(cause: FileFault) -> SymbolsFault {
         match cause {
             FileFault::Load(fault) => SymbolsFault::Load(fault),
@@ -90,6 +105,8 @@ impl From<FileFault> for SymbolsFault {
 }
 
 impl From<ToldFault> for SymbolsFault {
+    ghost from_gives = { λ _ e. IsReadFault e };
+
     fn from(cause: ToldFault) -> SymbolsFault {
         match cause {
             ToldFault::OutOfMemory => SymbolsFault::out_of_memory(),
@@ -99,6 +116,8 @@ impl From<ToldFault> for SymbolsFault {
 }
 
 impl From<ImageError> for SymbolsFault {
+    ghost from_gives = { λ cause e. e ≡ ends.Image cause };
+
     fn from(cause: ImageError) -> SymbolsFault {
         SymbolsFault::Image(cause)
     }

@@ -1,12 +1,13 @@
 //! What is told of the addresses of a file that is read on demand.
 
-ghost use Rattle.std.specs.Prelude.{◌≡◌, ◌<◌, ◌≤◌, ℕ, IfOk, string_bytes};
+ghost use Rattle.std.specs.Prelude.{◌≡◌, ◌<◌, ◌≤◌, ℕ, IfErr, IfOk, string_bytes};
 ghost use Rattle.pdb_databases.specs.Answer.{database_named, frames_named};
 ghost use Rattle.pdb_databases.specs.FileAnswers.{IsKnown};
 ghost use Rattle.pdb_file_views.specs.Views.{Grows};
 ghost use Rattle.pdb_owners.specs.Databases.{on, place_of};
 ghost use Rattle.pdb_symbol_files.specs.Code.{answers_of_code};
 ghost use Rattle.pdb_symbol_files.specs.Records.{symbol_records};
+ghost use Rattle.pdb_symbols.specs.Ends.{IsReadFault};
 ghost use Rattle.pdb_symbols.specs.SymbolsText.{HasRecords};
 ghost use Rattle.pdb_symbols.specs.Told.{told_named, told_place};
 ghost use Rattle.pdb_symbols_modules.specs.Streams.{streams};
@@ -125,6 +126,8 @@ impl<'a, F: FileExt + Drop, E: Write + Drop> ToldRuns for FileTold<'a, F, E> {
     ghost told = { λ t. told_named t.inlines t.symbolizer.flags t.symbolizer.order
         (streams t.symbolizer.contents) };
 
+    ghost file = { λ t. t.symbolizer.contents };
+
     fn prepare(&mut self, addresses: u64) {
         self.symbolizer.ask_all();
         self.progress.begin(addresses);
@@ -153,6 +156,9 @@ pub fn text_on_demand<F: FileExt + Drop, E: Write + Drop>(
     sections: &[ImageSectionHeader],
     runs: &mut FileTold<'_, F, E>,
 ) -> Result<FileText, SymbolsFault>
+    ensures grows { IsKnown runs.new.symbolizer → IsKnown runs.old.symbolizer }
+    ensures contents { runs.new.symbolizer.contents ≡ runs.old.symbolizer.contents }
+    ensures fails { IfErr result IsReadFault }
     ensures records { IsKnown runs.new.symbolizer → IfOk result (λ text.
         HasRecords (string_bytes text.head) (string_bytes text.functions) (string_bytes head)
         (symbol_records (answers_of_code sections.now

@@ -1,12 +1,13 @@
 //! The image of a database: its code ID, and how its functions are unwound.
 
-ghost use Rattle.std.specs.Prelude.{◌≡◌, [], OnErr, OnOk, string_bytes};
+ghost use Rattle.std.specs.Prelude.{◌≡◌, [], IfErr, OnErr, OnOk, string_bytes};
 ghost use Rattle.std.specs.Io.KnownBytes.{Appends};
 ghost use Rattle.pdb_symbol_files.specs.Output.{AppendsFront};
+ghost use Rattle.pdb_symbols.specs.Ends.{FailsToWrite};
 ghost use Rattle.pdb_symbols.specs.UnwindingText.{IsPassedOn, unwinding_text, unwound_text};
 
 use crate::fault::SymbolsFault;
-use pdb_image::{Image, PdbIdentity};
+use pdb_image::Image;
 use pdb_symbol_files::write_text;
 use pdb_unwinding::UnwoundFunctions;
 use std::alloc::Global;
@@ -38,18 +39,6 @@ pub fn read_image(rt: &(impl Files + AllocGlobal), path: &str) -> Result<Vec<u8>
     }
 }
 
-/// Checks that an image names the database of an identity.
-///
-/// # Errors
-/// `Image` where it can't be read whose it is, `ImageNamesNoPdb`, and `OtherBuild`.
-pub fn check_build(image: &Image<'_>, identity: &PdbIdentity) -> Result<(), SymbolsFault> {
-    match image.code_view()? {
-        None => Err(SymbolsFault::ImageNamesNoPdb),
-        Some(record) if record.identity().matches(identity) => Ok(()),
-        Some(_) => Err(SymbolsFault::OtherBuild),
-    }
-}
-
 /// Writes a text, and empties it.
 fn write_part<W: Write>(text: &mut String, output: &mut W) -> Result<(), SymbolsFault>
     ensures ok { OnOk result
@@ -57,6 +46,7 @@ fn write_part<W: Write>(text: &mut String, output: &mut W) -> Result<(), Symbols
     ensures emptied { OnOk result (string_bytes text.new ≡ []) }
     ensures part { OnErr result
         (AppendsFront (W.contents output.old) (W.contents output.new) (string_bytes text.old)) }
+    ensures fails { IfErr result FailsToWrite }
 {
     match write_text(text.as_str(), output) {
         Ok(()) => {}
@@ -68,8 +58,9 @@ fn write_part<W: Write>(text: &mut String, output: &mut W) -> Result<(), Symbols
 
 /// Writes a text, and empties it, if it is long.
 fn write_if_long<W: Write>(text: &mut String, output: &mut W) -> Result<(), SymbolsFault>
-    ensures { IsPassedOn (W.contents output.old) (W.contents output.new) (string_bytes text.old)
+    ensures out { IsPassedOn (W.contents output.old) (W.contents output.new) (string_bytes text.old)
         (string_bytes text.new) result }
+    ensures fails { IfErr result FailsToWrite }
 {
     if text.len() < AT_ONCE {
         return Ok(());
@@ -88,6 +79,7 @@ fn write_functions<W: Write>(
     ensures part { OnErr result
         (AppendsFront (W.contents output.old) (W.contents output.new)
         (unwound_text functions.old)) }
+    ensures fails { IfErr result FailsToWrite }
 {
     let mut text = String::new(alloc);
     while let Some(function) = functions.next(alloc)? {
@@ -112,6 +104,7 @@ pub fn write_unwinding<W: Write>(
     ensures part { OnErr result
         (AppendsFront (W.contents output.old) (W.contents output.new)
         (unwinding_text image.now)) }
+    ensures fails { IfErr result FailsToWrite }
 {
     match UnwoundFunctions::of_image(image) {
         Ok(mut functions) => write_functions(alloc, &mut functions, output),

@@ -3,11 +3,15 @@
 #![tactic(auto)]
 
 mod address_runs;
+mod describing;
 mod destination;
 mod fault;
 mod file_told;
 mod help;
+mod identity;
 mod image;
+mod making;
+mod making_on_demand;
 mod memory_told;
 mod options;
 mod progress;
@@ -51,7 +55,7 @@ fn run(rt: &HostRuntime, options: &Options) -> ExitCode {
     let mut errors = rt.stderr();
     let shows = errors.is_terminal();
     let progress = Progress::new(rt.stderr(), shows);
-    match write_symbols(rt, options, &mut rt.stdout(), progress) {
+    match write_symbols(rt, options, rt.stdout(), progress) {
         Ok(()) => ExitCode::SUCCESS,
         Err(fault) => {
             if shows {

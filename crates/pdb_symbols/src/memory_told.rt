@@ -1,10 +1,12 @@
 //! What is told of the addresses of a file that is in memory.
 
-ghost use Rattle.std.specs.Prelude.{◌≡◌, ◌+◌, ◌<◌, ◌≤◌, ℕ, IfOk, string_bytes};
+ghost use Rattle.std.specs.Prelude.{◌≡◌, ◌+◌, ◌<◌, ◌≤◌, ℕ, IfErr, IfOk, string_bytes};
 ghost use Rattle.pdb_databases.specs.Answer.{AnswersWith, answered_in};
+ghost use Rattle.pdb_loading.specs.declared.load_fault.LoadFault.TheVariants as load_faults;
 ghost use Rattle.pdb_symbol_files.specs.Code.{answers_of_code};
 ghost use Rattle.pdb_symbol_files.specs.Records.{symbol_records};
 ghost use Rattle.pdb_symbols.specs.SymbolsText.{HasRecords};
+ghost use Rattle.pdb_symbols.specs.declared.fault.SymbolsFault.TheVariants as ends;
 ghost use Rattle.pdb_symbols.specs.Told.{told_named};
 ghost use Rattle.pdb_symbols_modules.specs.Streams.{streams};
 
@@ -78,6 +80,8 @@ impl<'a, E: Write + Drop> ToldRuns for MemoryTold<'a, E> {
     ghost told = { λ t. told_named t.inlines 23 t.symbolizer.now.order
         (streams t.symbolizer.now.bytes) };
 
+    ghost file = { λ t. t.symbolizer.now.bytes };
+
     fn prepare(&mut self, addresses: u64) {
         self.progress.begin(addresses);
     }
@@ -101,6 +105,7 @@ pub fn text_in_memory<E: Write + Drop>(
     sections: &[ImageSectionHeader],
     runs: &mut MemoryTold<'_, E>,
 ) -> Result<FileText, SymbolsFault>
+    ensures memory { IfErr result (λ e. e ≡ ends.Load load_faults.OutOfMemory) }
     ensures records { IfOk result (λ text.
         HasRecords (string_bytes text.head) (string_bytes text.functions) (string_bytes head)
         (symbol_records (answers_of_code sections.now
@@ -109,6 +114,6 @@ pub fn text_in_memory<E: Write + Drop>(
 {
     match text_of(alloc, head, sections, runs) {
         Ok(text) => Ok(text),
-        Err(fault) => Err(SymbolsFault::from(fault)),
+        Err(_) => Err(SymbolsFault::out_of_memory()),
     }
 }

@@ -1,8 +1,9 @@
 //! Texts of records, written with the names of functions as people read them.
 
-ghost use Rattle.std.specs.Prelude.{◌≡◌, ◌++◌, [], ℕ, List, OnErr, OnOk};
+ghost use Rattle.std.specs.Prelude.{◌≡◌, ◌++◌, [], ℕ, List, IfErr, OnErr, OnOk};
 ghost use Rattle.std.specs.Io.KnownBytes.{Appends};
 ghost use Rattle.pdb_symbol_files.specs.Output.{AppendsFront};
+ghost use Rattle.pdb_symbols.specs.Ends.{FailsToWrite};
 ghost use Rattle.pdb_symbols.specs.NamedLines.{IsRenamed};
 ghost use Rattle.pdb_symbols.specs.UnwindingText.{IsPassedOn};
 
@@ -22,6 +23,7 @@ fn write_part<W: Write>(bytes: &mut Vec<u8>, output: &mut W) -> Result<(), Symbo
     ensures emptied { OnOk result (bytes.new.items ≡ []) }
     ensures part { OnErr result
         (AppendsFront (W.contents output.old) (W.contents output.new) bytes.old.items) }
+    ensures fails { IfErr result FailsToWrite }
 {
     match write_bytes(bytes.as_slice(), output) {
         Ok(()) => {}
@@ -33,8 +35,9 @@ fn write_part<W: Write>(bytes: &mut Vec<u8>, output: &mut W) -> Result<(), Symbo
 
 /// Writes bytes, and empties them, if they are many.
 fn write_if_long<W: Write>(bytes: &mut Vec<u8>, output: &mut W) -> Result<(), SymbolsFault>
-    ensures { IsPassedOn (W.contents output.old) (W.contents output.new) bytes.old.items
+    ensures out { IsPassedOn (W.contents output.old) (W.contents output.new) bytes.old.items
         bytes.new.items result }
+    ensures fails { IfErr result FailsToWrite }
 {
     if bytes.len() < AT_ONCE {
         return Ok(());
@@ -55,6 +58,7 @@ pub fn write_renamed<W: Write>(
         × Appends (W.contents output.old) (W.contents output.new) named) }
     ensures part { OnErr result ((named : List ℕ) × IsRenamed text.now named
         × AppendsFront (W.contents output.old) (W.contents output.new) named) }
+    ensures fails { IfErr result FailsToWrite }
 {
     let mut kept = Vec::new(alloc);
     let mut rest = text.as_bytes();

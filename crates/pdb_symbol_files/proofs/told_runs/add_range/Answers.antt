@@ -20,6 +20,7 @@ loop-address-preserved g c =
       high = omega (arith, i.high, i.low, within);
       grows = λ known. i.grows (c.told_run.ensures.grows known);
       same = c.told_run.ensures.same ∙ i.same;
+      kept = c.told_run.ensures.file ∙ i.kept;
       added = λ known answers are.
           subst (λ (xs : List Answer). AreOf c.add_run.new.records xs)
           (append_assoc answers (answers_along told start (x - start)) (answers_along told x count)

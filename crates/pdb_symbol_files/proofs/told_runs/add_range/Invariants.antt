@@ -15,6 +15,7 @@ invariant-loop-address g l =
       high : l.address - start ≤ l.range.end - start;
       grows : known l.runs → known l.fn.runs;
       same : told l.runs ≡ told l.fn.runs;
+      kept : g.R.ToldRuns.file l.runs ≡ g.R.ToldRuns.file l.fn.runs;
       added : known l.runs → (answers : List Answer) → AreOf l.fn.records answers
           → AreOf l.records (answers ++ answers_along (told l.fn.runs) start (l.address - start));
     }

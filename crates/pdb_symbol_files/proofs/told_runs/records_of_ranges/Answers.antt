@@ -20,6 +20,7 @@ loop-range-preserved g c =
     record {
       grows = λ known. i.grows (c.add_range.ensures.grows known);
       same = c.add_range.ensures.same ∙ i.same;
+      kept = c.add_range.ensures.file ∙ i.kept;
       of = λ known.
           subst (λ (xs : List Answer). AreOf c.add_range.new.records xs)
           (ap (λ (t : ℕ → Option Told). so_far ++ answers_along t r.start (r.end - r.start)) i.same

@@ -11,6 +11,7 @@ invariant-loop-range g l =
     record {
       grows : known l.runs → known l.fn.runs;
       same : told l.runs ≡ told l.fn.runs;
+      kept : g.R.ToldRuns.file l.runs ≡ g.R.ToldRuns.file l.fn.runs;
       of : known l.runs
           → AreOf l.records (answers_of_ranges (told l.fn.runs) (take l.range-index l.ranges));
     }

@@ -15,11 +15,11 @@ returns-in_err-write_if_long-clause-part g c =
     (string_bytes c.append_records.new.text) c.loop-text.functions c.next.new.self
     c.in_ok-function.field-0 c.in-Some.function c.loop-text.invariant c.in_ok-function.ensures.ok
     c.in-Some.is c.in_ok-append_records.ensures)
-    c.in_err-write_if_long.ensures)
+    c.in_err-write_if_long.ensures.out)
 
 pub loop-text-preserved : goal.loop-text-preserved
 loop-text-preserved g c =
-    let e = c.in_ok-write_if_long.ensures in
+    let e = c.in_ok-write_if_long.ensures.out in
     part_written (g.W.Write.contents c.args.output.now) (g.W.Write.contents c.loop-text.output)
     (g.W.Write.contents c.write_if_long.new.output) (unwound_text c.args.functions.now)
     (string_bytes c.append_records.new.text) e.0 (string_bytes c.write_if_long.new.text)

@@ -11,13 +11,13 @@ returns-in_err-write_if_long-clause-part g c =
     written_early c.from_residual-in_err-write_if_long.result _ _ _ _ _ _ _ _ _
     c.in_err-write_if_long.was
     (line_kept _ _ _ _ _ _ _ _ c.loop-line.invariant c.in-Some.ensures
-    c.in_ok-append_line.ensures) c.write_if_long.ensures
+    c.in_ok-append_line.ensures) c.write_if_long.ensures.out
 
 pub loop-line-preserved : goal.loop-line-preserved
 loop-line-preserved g c =
     kept_out _ _ _ _ _ _ _ _ _ c.in_ok-write_if_long.was
     (line_kept _ _ _ _ _ _ _ _ c.loop-line.invariant c.in-Some.ensures
-    c.in_ok-append_line.ensures) c.write_if_long.ensures
+    c.in_ok-append_line.ensures) c.write_if_long.ensures.out
 
 pub returns-in_err-extend_from_slice-clause-part :
     goal.returns-in_err-extend_from_slice-clause-part

@@ -1,0 +1,32 @@
+-- What is told has no control character, and its numbers have 64 bits at most.
+use Rattle.std.specs.Prelude.{ℕ, ◌^◌, ◌<◌, List, length}
+use Rattle.std.specs.List.{AllByRecursion}
+use Rattle.pdb_symbol_files.specs.Reading.{ArePlain, IsPlain}
+use Rattle.pdb_symbol_files.specs.Records.{SymbolRecords, symbol_records}
+use Rattle.pdb_symbol_files.specs.Told.{Answer, Call, Told}
+
+abbrev pub IsPlainCall : Call → Type 0
+IsPlainCall c = IsPlain c.file × (c.line < 2 ^ 64) × IsPlain c.callee
+
+-- no name or file that is told of an address has a control character
+pub record IsPlainTold (t : Told) : Type 0 where
+  pub function : IsPlain t.function
+  pub file : IsPlain t.file
+  pub line : t.line < 2 ^ 64
+  pub calls : AllByRecursion IsPlainCall t.calls
+  pub few : length t.calls < 2 ^ 64
+
+abbrev pub IsPlainAnswer : Answer → Type 0
+IsPlainAnswer a = (a.address < 2 ^ 32) × IsPlainTold a.told
+
+abbrev pub ArePlainAnswers : List Answer → Type 0
+ArePlainAnswers answers = AllByRecursion IsPlainAnswer answers
+
+-- fewer than 2^64 files and inlined functions have numbers
+abbrev pub AreCountable : SymbolRecords → Type 0
+AreCountable r = (length (r.numbers).files < 2 ^ 64) × (length (r.numbers).origins < 2 ^ 64)
+
+-- The law of plain records: those of plain answers, of 2^32 addresses at most, are plain.
+abbrev pub MakesPlain : List Answer → Type 0
+MakesPlain answers = ArePlainAnswers answers → length answers < 2 ^ 64
+    → AreCountable (symbol_records answers) → ArePlain (symbol_records answers)

@@ -1,0 +1,176 @@
+//! Symbol files of databases that are read on demand: made, and written.
+
+ghost use Rattle.std.specs.Prelude.{◌≡◌, true, None, Ok, IfErr, IfOk, option_copied, string_bytes};
+ghost use Rattle.pdb_databases.specs.FileAnswers.{IsKnown};
+ghost use Rattle.pdb_file_views.specs.Views.{agrees};
+ghost use Rattle.pdb_loading.specs.declared.order.ContributionOrder.TheVariants.{Any};
+ghost use Rattle.pdb_loading.specs.Loading.{load_fault_with};
+ghost use Rattle.pdb_symbols.specs.Described.{IsDescribed, asked_of};
+ghost use Rattle.pdb_symbols.specs.SymbolFile.{FailsToMake, IsMade, SymbolFile, WritesSymbols};
+ghost use Rattle.pdb_symbols.specs.SymbolFile.{symbol_file};
+ghost use Rattle.pdb_symbols_modules.specs.Streams.{streams};
+
+use crate::describing::{Described, describe};
+use crate::fault::SymbolsFault;
+use crate::file_told::{FileTold, text_on_demand};
+use crate::making::{Destination, Made, write_made};
+use crate::options::Options;
+use crate::progress::Progress;
+use pdb_databases::{FileOnDemand, FileSymbolizer, NotLoaded};
+use pdb_image::PdbIdentity;
+use std::alloc::Global;
+use std::io::Write;
+use std::os::unix::fs::FileExt;
+
+/// What came of a symbol file, and the database's file, with what was read of it.
+#[derive(Drop)]
+pub struct OnDemand<'a, F: Drop, T: Drop> {
+    /// What came of it.
+    pub outcome: Result<T, SymbolsFault>,
+    /// The file.
+    pub source: FileOnDemand<'a, F>,
+}
+
+/// Whose the symbol file of a database is that is read on demand, and its identity.
+fn described_on_demand<'b, F: FileExt + Drop>(
+    alloc: Global,
+    options: &Options,
+    symbolizer: &mut FileSymbolizer<'_, F>,
+    image: Option<&'b [u8]>,
+) -> Result<(Described<'b>, PdbIdentity), SymbolsFault>
+    requires order { symbolizer.old.order ≡ Any }
+    requires loaded { IsKnown symbolizer.old
+        → load_fault_with Any (streams symbolizer.old.contents) ≡ None }
+    ensures contents { symbolizer.new.contents ≡ symbolizer.old.contents }
+    ensures order { symbolizer.new.order ≡ symbolizer.old.order }
+    ensures flags { symbolizer.new.flags ≡ symbolizer.old.flags }
+    ensures ok { IsKnown symbolizer.new → IfOk result (λ d. IsDescribed (asked_of options.now)
+        (option_copied image.entry) symbolizer.old.contents (string_bytes d.0.first)
+        d.0.sections.items d.0.image d.1) }
+    ensures failed { IsKnown symbolizer.new → IfErr result (λ e. FailsToMake true
+        (symbol_file (asked_of options.now) (option_copied image.entry)
+        (streams symbolizer.old.contents)) (streams symbolizer.old.contents) e) }
+{
+    let identity = symbolizer.identity(alloc)?;
+    let held = symbolizer.held();
+    let described = describe(alloc, options, held, &identity, image)?;
+    Ok((described, identity))
+}
+
+/// Makes the symbol file of a database that was loaded and is read on demand.
+fn made_by_file<'a, 'b, F: FileExt + Drop, E: Write + Drop>(
+    alloc: Global,
+    options: &Options,
+    mut symbolizer: FileSymbolizer<'a, F>,
+    image: Option<&'b [u8]>,
+    progress: Progress<E>,
+) -> OnDemand<'a, F, Made<'b>>
+    requires order { symbolizer.order ≡ Any }
+    requires flags { symbolizer.flags ≡ 23 }
+    requires loaded { IsKnown symbolizer
+        → load_fault_with Any (streams symbolizer.contents) ≡ None }
+    ensures contents { result.source.contents.numbers ≡ symbolizer.entry.contents }
+    ensures ok { agrees result.source.views symbolizer.entry.contents ≡ true
+        → IfOk result.outcome (λ m. (f : SymbolFile) × (symbol_file (asked_of options.now)
+        (option_copied image.entry) (streams symbolizer.entry.contents) ≡ Ok f)
+        × IsMade f (string_bytes m.text.head) (string_bytes m.text.functions) m.image) }
+    ensures failed { agrees result.source.views symbolizer.entry.contents ≡ true
+        → IfErr result.outcome (λ e. FailsToMake true (symbol_file (asked_of options.now)
+        (option_copied image.entry) (streams symbolizer.entry.contents))
+        (streams symbolizer.entry.contents) e) }
+{
+    let (described, identity) = match described_on_demand(alloc, options, &mut symbolizer, image) {
+        Ok(described) => described,
+        Err(fault) => {
+            let (source, context) = symbolizer.into_parts();
+            drop(context);
+            return OnDemand {
+                outcome: Err(fault),
+                source,
+            };
+        }
+    };
+    let Described {
+        first,
+        sections,
+        image,
+    } = described;
+    let mut runs = FileTold {
+        symbolizer,
+        inlines: options.inlines,
+        progress,
+    };
+    let text = text_on_demand(alloc, first, sections.as_slice(), &mut runs);
+    let FileTold {
+        symbolizer,
+        inlines: _,
+        progress,
+    } = runs;
+    drop(progress);
+    let (source, context) = symbolizer.into_parts();
+    drop(context);
+    let outcome = match text {
+        Ok(text) => Ok(Made {
+            text,
+            image,
+            identity,
+        }),
+        Err(fault) => Err(fault),
+    };
+    OnDemand { outcome, source }
+}
+
+/// Makes the symbol file of a database that is read on demand, and of the bytes of its image, if
+/// they are given.
+#[tactic(auto, using(crate::proofs::MakingSteps::unopened_fails))]
+fn made_on_demand<'a, 'b, F: FileExt + Drop, E: Write + Drop>(
+    alloc: Global,
+    options: &Options,
+    source: FileOnDemand<'a, F>,
+    image: Option<&'b [u8]>,
+    progress: Progress<E>,
+) -> OnDemand<'a, F, Made<'b>>
+    requires { source.order ≡ Any }
+    ensures ok { agrees result.source.views source.entry.contents.numbers ≡ true
+        → IfOk result.outcome (λ m. (f : SymbolFile) × (symbol_file (asked_of options.now)
+        (option_copied image.entry) (streams source.entry.contents.numbers) ≡ Ok f)
+        × IsMade f (string_bytes m.text.head) (string_bytes m.text.functions) m.image) }
+    ensures failed { agrees result.source.views source.entry.contents.numbers ≡ true
+        → IfErr result.outcome (λ e. FailsToMake true (symbol_file (asked_of options.now)
+        (option_copied image.entry) (streams source.entry.contents.numbers))
+        (streams source.entry.contents.numbers) e) }
+{
+    match FileSymbolizer::open(alloc, source) {
+        Ok(symbolizer) => made_by_file(alloc, options, symbolizer, image, progress),
+        Err(NotLoaded { fault, source }) => OnDemand {
+            outcome: Err(SymbolsFault::from(fault)),
+            source,
+        },
+    }
+}
+
+/// Writes the symbol file of a database that is read on demand, and of the bytes of its image, if
+/// they are given. That is the file of the bytes that the database's file is taken to have, where
+/// these agree with all that was read.
+pub fn write_on_demand<'a, S: AllocGlobal, F: FileExt + Drop, W: Destination<S>, E: Write + Drop>(
+    rt: &S,
+    options: &Options,
+    source: FileOnDemand<'a, F>,
+    image: Option<&[u8]>,
+    output: &mut W,
+    progress: Progress<E>,
+) -> OnDemand<'a, F, ()>
+    requires { source.order ≡ Any }
+    ensures { agrees result.source.views source.entry.contents.numbers ≡ true
+        → WritesSymbols true options.now.demangle (symbol_file (asked_of options.now)
+        (option_copied image.entry) (streams source.entry.contents.numbers))
+        (streams source.entry.contents.numbers) (W.contents output.old) (W.contents output.new)
+        result.outcome }
+{
+    let OnDemand { outcome, source } = made_on_demand(rt.alloc(), options, source, image, progress);
+    let outcome = match outcome {
+        Ok(made) => write_made(rt, options, &made, output),
+        Err(fault) => Err(fault),
+    };
+    OnDemand { outcome, source }
+}
