@@ -1,17 +1,17 @@
 -- Records of what is plain are plain.
-use Rattle.std.proofs.Common.{◌≡◌, ℕ, ◌+◌, ◌-◌, ◌<◌, ◌≤◌, ◌^◌, List, [], ◌∷◌, ◌++◌, Bool, true, false}
-use Rattle.std.proofs.Common.{cond, refl, sym, ◌∙◌, ap, subst, arith, zero, suc, map, length, max}
+use Rattle.std.proofs.Common.{ℕ, ◌+◌, ◌-◌, ◌<◌, ◌≤◌, ◌^◌, List, [], ◌∷◌, ◌++◌, Bool, true, false}
+use Rattle.std.proofs.Common.{cond, arith, zero, suc, map, length, max}
 use Rattle.std.specs.Prelude.{Option, None, Some, IfSome, slice_get, take, codes, ◌&&◌, ◌==◌, not}
-use Rattle.std.specs.List.{AllByRecursion, flat_map, fold, list_any, position_or_len, prefix_len}
+use Rattle.std.specs.List.{AllByRecursion, flat_map, fold, list_any, prefix_len}
 use Rattle.std.specs.Str.{bytes_eq}
-use Rattle.pdb_symbol_files.specs.PlainAnswers.{ArePlainAnswers, AreCountable, IsPlainAnswer}
+use Rattle.pdb_symbol_files.specs.PlainAnswers.{ArePlainAnswers, IsPlainAnswer}
 use Rattle.pdb_symbol_files.specs.PlainAnswers.{IsPlainCall, IsPlainTold, MakesPlain}
-use Rattle.pdb_symbol_files.specs.Reading.{ArePlain, IsPlain, IsPlainFunction, IsPlainInline}
+use Rattle.pdb_symbol_files.specs.Reading.{IsPlain, IsPlainFunction, IsPlainInline}
 use Rattle.pdb_symbol_files.specs.Reading.{IsPlainLine}
-use Rattle.pdb_symbol_files.specs.Records.{Numbers, SymbolRecords, call_levels, calls, distinct}
+use Rattle.pdb_symbol_files.specs.Records.{Numbers, call_levels, calls}
 use Rattle.pdb_symbol_files.specs.Records.{files_in, function_record, inline_record, levels_from}
 use Rattle.pdb_symbol_files.specs.Records.{levels_in, line_record, number_of, numbers_of}
-use Rattle.pdb_symbol_files.specs.Records.{one_function, origins_in, places, records_of}
+use Rattle.pdb_symbol_files.specs.Records.{one_function, origins_in, places}
 use Rattle.pdb_symbol_files.specs.Records.{symbol_records, used}
 use Rattle.pdb_symbol_files.specs.Spans.{Path, SourcePlace, Span, path_at, path_to, place_of}
 use Rattle.pdb_symbol_files.specs.Spans.{same_calls, same_known, same_place, span_if, spans_of}

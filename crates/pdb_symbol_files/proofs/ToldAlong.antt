@@ -1,8 +1,8 @@
 -- What is told along addresses.
 use Rattle.std.proofs.Common.{◌≡◌, ℕ, ◌+◌, ◌-◌, ◌<◌, ◌≤◌, List, [], ◌∷◌, ◌++◌, Bool, true, false, cond}
-use Rattle.std.proofs.Common.{refl, sym, ◌∙◌, ap, arith, zero, suc, length}
+use Rattle.std.proofs.Common.{refl, sym, ◌∙◌, ap, arith, zero, suc}
 use Rattle.std.specs.Prelude.{Option, None, Some}
-use Rattle.std.proofs.lemmas.List.{append_assoc, append-nil}
+use Rattle.std.proofs.lemmas.List.{append_assoc}
 use Rattle.pdb_symbol_files.specs.Told.{Answer, Told, answers_from}
 use Rattle.pdb_symbol_files.specs.Code.{answer_if, answers_among, answers_along}
 

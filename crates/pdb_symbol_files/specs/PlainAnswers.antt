@@ -1,5 +1,5 @@
 -- What is told has no control character, and its numbers have 64 bits at most.
-use Rattle.std.specs.Prelude.{ℕ, ◌^◌, ◌<◌, List, length}
+use Rattle.std.specs.Prelude.{◌^◌, ◌<◌, List, length}
 use Rattle.std.specs.List.{AllByRecursion}
 use Rattle.pdb_symbol_files.specs.Reading.{ArePlain, IsPlain}
 use Rattle.pdb_symbol_files.specs.Records.{SymbolRecords, symbol_records}

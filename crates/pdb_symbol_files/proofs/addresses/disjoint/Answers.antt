@@ -1,4 +1,3 @@
-use Rattle.std.proofs.Common.{rules}
 use Rattle.pdb_symbol_files.proofs.CodeRanges.{between_ascending, cut_none, cut_some}
 use Rattle.pdb_symbol_files.proofs.addresses.disjoint.Goals.{then-start-range+in_ok-push, else-start-range}
 use Rattle.pdb_symbol_files.proofs.addresses.disjoint.Goals as goal

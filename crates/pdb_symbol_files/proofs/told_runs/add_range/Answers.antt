@@ -1,4 +1,4 @@
-use Rattle.std.proofs.Common.{◌≡◌, ◌++◌, ◌-◌, ◌+◌, ◌∙◌, List, ap, arith, refl, subst, sym, ℕ}
+use Rattle.std.proofs.Common.{◌++◌, ◌-◌, ◌∙◌, List, ap, arith, subst, sym, ℕ}
 use Rattle.std.specs.Prelude.{Option}
 use Rattle.std.proofs.lemmas.List.{append_assoc}
 use Rattle.pdb_symbol_files.specs.Code.{answers_along}

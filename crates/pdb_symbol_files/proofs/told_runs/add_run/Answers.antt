@@ -1,9 +1,9 @@
-use Rattle.std.proofs.Common.{◌≡◌, ◌++◌, ◌+◌, ◌<◌, ◌≤◌, ℕ, List, [], sym, subst, ap, ◌∙◌}
-use Rattle.std.specs.Prelude.{OnOk, Option, Some, None}
+use Rattle.std.proofs.Common.{◌≡◌, ◌++◌, List, [], sym, subst, ap, ◌∙◌}
+use Rattle.std.specs.Prelude.{OnOk}
 use Rattle.std.proofs.lemmas.List.{append-nil}
 use Rattle.pdb_symbol_files.specs.Code.{answers_along}
 use Rattle.pdb_symbol_files.specs.PieceRecords.{AreOf}
-use Rattle.pdb_symbol_files.specs.Told.{Answer, Told, answers_from}
+use Rattle.pdb_symbol_files.specs.Told.{Answer, answers_from}
 use Rattle.pdb_symbol_files.proofs.ToldAlong.{along_none, along_some}
 use Rattle.pdb_symbol_files.proofs.told_runs.add_run.Goals as goal
 

@@ -1,4 +1,4 @@
-use Rattle.std.proofs.Common.{◌≡◌, ◌++◌, ◌-◌, ◌∙◌, List, ap, get_or, sym, subst, take, ℕ}
+use Rattle.std.proofs.Common.{◌++◌, ◌-◌, ◌∙◌, List, ap, get_or, sym, subst, take, ℕ}
 use Rattle.std.specs.Prelude.{Option}
 use Rattle.pdb_symbol_files.specs.Code.{answers_along}
 use Rattle.pdb_symbol_files.specs.PieceRecords.{AreOf}
