@@ -75,7 +75,7 @@ over_nothing refused_requests/sweep.py 4 row_one-line_F 'llvm llvm' \
 over_nothing commands.sh 7 --quick README.md
 over_nothing manual.sh 1
 over_nothing llvm_symbolizer.sh 6 llvm
-over_nothing llvm_protocol.py 221
+over_nothing llvm_protocol.py 223
 over_nothing llvm_clients.py 1
 over_nothing stack.py 16
 over_nothing costly_files.py 6

@@ -1,6 +1,4 @@
-//! Tests of the drop-in for `llvm-symbolizer`: images, requests of lines, and texts of answers. An
-//! expected value comes from the format or from `llvm-symbolizer`.
+//! Tests of what the drop-in for `llvm-symbolizer` reads: images. An expected value comes from the
+//! format.
 
 mod images;
-mod requests;
-mod texts;
