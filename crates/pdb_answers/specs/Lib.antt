@@ -1,5 +1,6 @@
 pub mod FileOrNothing
 pub mod KnownFailures
+pub mod PlaceAnswers
 pub mod Symbolizers
 pub use Rattle.pdb_frames.specs.Choice
 pub use Rattle.pdb_frames.specs.Failing

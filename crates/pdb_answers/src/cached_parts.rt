@@ -1,8 +1,7 @@
 //! What is read and cached for an answer at a place.
 
-ghost use Rattle.std.specs.Prelude.{◌≡◌, IfSome, option_copied, slice_get, ◌||◌};
-ghost use Rattle.pdb_frames.specs.FailingParts.{has_failed};
-ghost use Rattle.pdb_frames.specs.Failing.{ProcedureInlineRanges, ProcedureLines};
+ghost use Rattle.std.specs.Prelude.{◌≡◌, IfSome, option_copied, slice_get};
+ghost use Rattle.pdb_answers.specs.PlaceAnswers.{stands_failed};
 ghost use Rattle.pdb_known_modules.specs.KnownModules.{procedures_in};
 
 use pdb_addresses::PdbInternalSectionOffset;
@@ -60,8 +59,7 @@ fn stands_in_part<I: ModuleTables>(
     module_index: u16,
 ) -> bool
     ensures { IfSome (slice_get (procedures_in (option_copied known.entry)) number)
-        (λ q. result ≡ (has_failed failed.now (ProcedureLines module_index q.offset)
-        || has_failed failed.now (ProcedureInlineRanges module_index q.offset))) }
+        (λ q. result ≡ stands_failed failed.now module_index q) }
 {
     match procedure_numbered(known, number) {
         None => false,

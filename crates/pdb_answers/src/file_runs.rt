@@ -1,22 +1,17 @@
 //! Files at places: a key of the file at a place, how far it goes on, and the file of a key.
 
-ghost use Rattle.std.specs.Prelude.{◌≡◌, ◌≤◌, ℕ, IfOk, Ok, Option, Some};
+ghost use Rattle.std.specs.Prelude.{◌≡◌, ◌≤◌, IfOk, Ok, Some};
 ghost use Rattle.std.specs.Prelude.{option_and_then, option_copied};
-ghost use Rattle.pdb_addresses.specs.SectionRun.{up_to_next};
 ghost use Rattle.pdb_answers.specs.FileOrNothing.{file_or_nothing};
-ghost use Rattle.pdb_answers.specs.KnownFailures.{AreFailuresOf};
-ghost use Rattle.pdb_answers.specs.Symbolizers.{scope_in};
+ghost use Rattle.pdb_answers.specs.PlaceAnswers.{IfFailuresOf, IsRunOf, RunsFile};
+ghost use Rattle.pdb_answers.specs.PlaceAnswers.{StayFailuresOf, file_on, file_run_held};
+ghost use Rattle.pdb_answers.specs.PlaceAnswers.{files_in};
 ghost use Rattle.pdb_frames.specs.Choice.{start_address};
-ghost use Rattle.pdb_frames.specs.FileRuns.{file_run_at, file_run_of, run_reported};
 ghost use Rattle.pdb_frames.specs.FileRuns.{run_if_addressed as addressed_run};
-ghost use Rattle.pdb_frames.specs.Files.{file_by, file_here, files_of, if_any};
-ghost use Rattle.pdb_frames.specs.NearBounds.{bounds_near};
-ghost use Rattle.pdb_frames.specs.Runs.{procedures_of};
+ghost use Rattle.pdb_frames.specs.Files.{file_by, if_any};
 ghost use Rattle.pdb_frames.specs.ChosenSeen.{chosen_seen};
-ghost use Rattle.pdb_owners.specs.Databases.{IsOneRun, place_of as as_place};
 ghost use Rattle.pdb_owners.specs.FileAnswers.{file_seen};
 ghost use Rattle.pdb_known_modules.specs.CachedModules.{known_in};
-ghost use Rattle.pdb_known_modules.specs.KnownModules.{ModuleData};
 ghost use Rattle.pdb_known_modules.specs.KnownModules.{procedure_if_numbered, procedures_in};
 ghost use Rattle.pdb_module_data.specs.Procedures.{over};
 ghost use Rattle.pdb_resolving.specs.Fault.{Answers};
@@ -60,8 +55,8 @@ pub(crate) fn keep_failure<I: ModuleTables>(
     known: Option<&BasicModuleInfo<'_, I>>,
     chosen: Chosen<'_, '_>,
 ) -> std::result::Result<(), AllocError>
-    ensures { (own : ℕ → Option ModuleData) → own module_index ≡ option_copied known.entry
-        → AreFailuresOf own known_failures.old → AreFailuresOf own known_failures.new }
+    ensures { StayFailuresOf module_index (option_copied known.entry) known_failures.old
+        known_failures.new }
 {
     match failing_in(alloc, module_index, known, chosen)? {
         None => Ok(()),
@@ -79,13 +74,10 @@ fn read_run<I: ModuleTables>(
     chosen: Chosen<'_, '_>,
     stretch: Stretch,
 ) -> std::result::Result<(Option<FileKey>, u32), AllocError>
-    ensures known { (own : ℕ → Option ModuleData)
-        → own stretch.module_index ≡ option_copied known.entry
-        → AreFailuresOf own known_failures.old → AreFailuresOf own known_failures.new }
-    ensures run { IfOk result (λ run. run ≡ run_reported
-        (start_address parts.now (chosen_seen chosen.entry)) stretch.far
-        (file_run_of (option_copied known.entry) (chosen_seen chosen.entry) stretch.place
-        stretch.far)) }
+    ensures known { StayFailuresOf stretch.module_index (option_copied known.entry)
+        known_failures.old known_failures.new }
+    ensures run { RunsFile parts.now (option_copied known.entry) (chosen_seen chosen.entry) stretch
+        result }
 {
     match file_run_in(alloc, known, chosen, stretch) {
         Ok(run) => Ok(run_if_addressed(parts, chosen, run, stretch.far)),
@@ -108,16 +100,10 @@ fn run_unless_known<I: ModuleTables>(
     chosen: Chosen<'_, '_>,
     stretch: Stretch,
 ) -> std::result::Result<(Option<FileKey>, u32), AllocError>
-    ensures known { (own : ℕ → Option ModuleData)
-        → own stretch.module_index ≡ option_copied known.entry
-        → AreFailuresOf own known_failures.old → AreFailuresOf own known_failures.new }
-    ensures run { (own : ℕ → Option ModuleData)
-        → own stretch.module_index ≡ option_copied known.entry
-        → AreFailuresOf own known_failures.old
-        → IfOk result (λ run. run ≡ run_reported
-        (start_address parts.now (chosen_seen chosen.entry)) stretch.far
-        (file_run_of (option_copied known.entry) (chosen_seen chosen.entry) stretch.place
-        stretch.far)) }
+    ensures known { StayFailuresOf stretch.module_index (option_copied known.entry)
+        known_failures.old known_failures.new }
+    ensures run { IfFailuresOf stretch.module_index (option_copied known.entry) known_failures.old
+        (RunsFile parts.now (option_copied known.entry) (chosen_seen chosen.entry) stretch result) }
 {
     match known_failures.part(stretch.module_index, chosen) {
         Some(_) => Ok((Some(FileKey::Unreadable), stretch.far)),
@@ -177,10 +163,8 @@ impl<'a, 's, P: ModuleProvider> PlaceSymbolizer<'a, 's, P> {
         limit: u32,
     ) -> std::result::Result<(Option<FileKey>, u32), AllocError>
         ensures same { self.new ≡ self.old }
-        ensures run { IfOk result (λ run. let scope = scope_in P.provided self.old in
-            run ≡ file_run_at self.old.parts (scope contribution.module_index) contribution place
-            (up_to_next (bounds_near self.old.parts (procedures_of scope (Some contribution))
-            place) place.offset limit)) }
+        ensures run { IfOk result
+            (λ run. run ≡ file_run_held P.provided self.old contribution place limit) }
     {
         let module_index = contribution.module_index();
         let modules = self.namer.modules();
@@ -236,9 +220,8 @@ impl<'a, 's, P: ModuleProvider> PlaceSymbolizer<'a, 's, P> {
         requires { 1 ≤ limit }
         ensures same { self.new ≡ self.old }
         ensures file { Answers (λ run. option_and_then (file_by self.old.parts) run.0) result
-            (Ok (if_any (file_here self.old.parts (scope_in P.provided self.old) place))) }
-        ensures count { IfOk result (λ run. IsOneRun (files_of self.old.parts
-            (scope_in P.provided self.old)) (as_place place) limit run.1) }
+            (Ok (if_any (file_on P.provided self.old place))) }
+        ensures count { IsRunOf (files_in P.provided self.old) place limit result }
     {
         match self.parts.holder(place) {
             None => Ok((None, to_next_shared_bound(&self.parts, place, limit))),
@@ -293,9 +276,8 @@ impl<'a, 's, P: ModuleProvider> PlaceSymbolizer<'a, 's, P> {
         requires { 1 ≤ limit }
         ensures same { self.new ≡ self.old }
         ensures file { Answers (λ run. file_seen run.0) result
-            (Ok (file_here self.old.parts (scope_in P.provided self.old) place)) }
-        ensures count { IfOk result (λ run. IsOneRun (files_of self.old.parts
-            (scope_in P.provided self.old)) (as_place place) limit run.1) }
+            (Ok (file_on P.provided self.old place)) }
+        ensures count { IsRunOf (files_in P.provided self.old) place limit result }
     {
         let (key, count) = self.file_key_run(alloc, place, limit)?;
         let file = self.file_of_key(alloc, key)?;

@@ -1,19 +1,9 @@
 //! Runs of frames: the frames at a place, and how far they go on.
 
-ghost use Rattle.std.specs.Prelude.{◌≡◌, ◌≤◌, ℕ, IfOk, IfSome, Ok, Option, Some, option_copied};
-ghost use Rattle.pdb_addresses.specs.SectionRun.{up_to_next};
-ghost use Rattle.pdb_answers.specs.KnownFailures.{AreFailuresOf};
-ghost use Rattle.pdb_answers.specs.Symbolizers.{scope_in};
-ghost use Rattle.pdb_frames.specs.ChosenSeen.{chosen_seen};
-ghost use Rattle.pdb_frames.specs.FailingParts.{failing_in as failing_in_module};
-ghost use Rattle.pdb_frames.specs.FrameRuns.{cuts_in, frames_here, frames_of_places, readable};
-ghost use Rattle.pdb_frames.specs.FrameRuns.{frames_run_at as run_at_place, run_of_answer};
-ghost use Rattle.pdb_frames.specs.FramesAt.{frames_of_chosen};
-ghost use Rattle.pdb_frames.specs.NearBounds.{bounds_near};
-ghost use Rattle.pdb_frames.specs.Printing.{env_of};
-ghost use Rattle.pdb_frames.specs.Runs.{procedures_of};
-ghost use Rattle.pdb_owners.specs.Databases.{IsOneRun, place_of as as_place};
-ghost use Rattle.pdb_known_modules.specs.KnownModules.{ModuleData};
+ghost use Rattle.std.specs.Prelude.{◌≡◌, ◌≤◌, IfOk, IfSome, Ok, Some, option_copied};
+ghost use Rattle.pdb_answers.specs.PlaceAnswers.{IsRunOf, StayFailuresOf, failing_found};
+ghost use Rattle.pdb_answers.specs.PlaceAnswers.{found_seen, frames_in, frames_on};
+ghost use Rattle.pdb_answers.specs.PlaceAnswers.{frames_run_held, run_found};
 ghost use Rattle.pdb_resolving.specs.Fault.{Answers};
 
 use crate::cached_parts::HeldPlace;
@@ -43,14 +33,10 @@ fn read_run<'a, P: ModuleProvider>(
     far: u32,
 ) -> std::result::Result<(Option<SharedFunctionFrames<'a>>, u32), AllocError>
     ensures same { namer.new ≡ namer.old }
-    ensures known { (own : ℕ → Option ModuleData)
-        → own found.now.module_index ≡ option_copied found.now.known
-        → AreFailuresOf own known_failures.old → AreFailuresOf own known_failures.new }
-    ensures run { IfOk result (λ run. run ≡ run_of_answer (frames_of_chosen parts.now
-        (env_of P.provided namer.old found.now.module_index) (option_copied found.now.known)
-        found.now.place (Some (chosen_seen found.now.chosen)))
-        (cuts_in (option_copied found.now.known) (chosen_seen found.now.chosen))
-        found.now.place far) }
+    ensures known { StayFailuresOf found.now.module_index (option_copied found.now.known)
+        known_failures.old known_failures.new }
+    ensures run { IfOk result
+        (λ run. run ≡ run_found P.provided namer.old parts.now (found_seen found.now) far) }
 {
     let stretch = Stretch {
         module_index: found.module_index,
@@ -88,17 +74,13 @@ fn run_unless_known<'a, P: ModuleProvider>(
     found: &ChosenPlace<'_, 'a, P::Info>,
     far: u32,
 ) -> std::result::Result<(Option<SharedFunctionFrames<'a>>, u32), AllocError>
-    requires { IfSome found.now.failing (λ part. failing_in_module found.now.module_index
-        (option_copied found.now.known) (chosen_seen found.now.chosen) ≡ Some part) }
+    requires { IfSome found.now.failing
+        (λ part. failing_found (found_seen found.now) ≡ Some part) }
     ensures same { namer.new ≡ namer.old }
-    ensures known { (own : ℕ → Option ModuleData)
-        → own found.now.module_index ≡ option_copied found.now.known
-        → AreFailuresOf own known_failures.old → AreFailuresOf own known_failures.new }
-    ensures run { IfOk result (λ run. run ≡ run_of_answer (frames_of_chosen parts.now
-        (env_of P.provided namer.old found.now.module_index) (option_copied found.now.known)
-        found.now.place (Some (chosen_seen found.now.chosen)))
-        (cuts_in (option_copied found.now.known) (chosen_seen found.now.chosen))
-        found.now.place far) }
+    ensures known { StayFailuresOf found.now.module_index (option_copied found.now.known)
+        known_failures.old known_failures.new }
+    ensures run { IfOk result
+        (λ run. run ≡ run_found P.provided namer.old parts.now (found_seen found.now) far) }
 {
     match found.failing {
         Some(_) => Ok((None, far)),
@@ -117,10 +99,8 @@ impl<'a, 's, P: ModuleProvider> PlaceSymbolizer<'a, 's, P> {
         limit: u32,
     ) -> std::result::Result<(Option<SharedFunctionFrames<'a>>, u32), AllocError>
         ensures same { self.new ≡ self.old }
-        ensures run { IfOk result (λ run. let scope = scope_in P.provided self.old in
-            run ≡ run_at_place self.old.parts (scope contribution.module_index) contribution place
-            (up_to_next (bounds_near self.old.parts (procedures_of scope (Some contribution))
-            place) place.offset limit)) }
+        ensures run { IfOk result
+            (λ run. run ≡ frames_run_held P.provided self.old contribution place limit) }
     {
         let module_index = contribution.module_index();
         let modules = self.namer.modules();
@@ -178,10 +158,8 @@ impl<'a, 's, P: ModuleProvider> PlaceSymbolizer<'a, 's, P> {
     ) -> Result<(Option<SharedFunctionFrames<'a>>, u32)>
         requires { 1 ≤ limit }
         ensures same { self.new ≡ self.old }
-        ensures frames { Answers (λ run. run.0) result (Ok (readable
-            (frames_here self.old.parts (scope_in P.provided self.old) place))) }
-        ensures count { IfOk result (λ run. IsOneRun (frames_of_places self.old.parts
-            (scope_in P.provided self.old)) (as_place place) limit run.1) }
+        ensures frames { Answers (λ run. run.0) result (Ok (frames_on P.provided self.old place)) }
+        ensures count { IsRunOf (frames_in P.provided self.old) place limit result }
     {
         match self.parts.holder(place) {
             None => Ok((None, to_next_shared_bound(&self.parts, place, limit))),

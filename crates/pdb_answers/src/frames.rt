@@ -1,17 +1,11 @@
 //! Frames at places.
 
-ghost use Rattle.std.specs.Prelude.{◌≡◌, ℕ, IfSome, Option, Some, option_copied};
-ghost use Rattle.pdb_answers.specs.KnownFailures.{AreFailuresOf};
-ghost use Rattle.pdb_answers.specs.Symbolizers.{lasting, scope_in};
-ghost use Rattle.pdb_frames.specs.Choice.{held_at};
-ghost use Rattle.pdb_frames.specs.FailingParts.{failed_after, failing_in as failing_in_module};
-ghost use Rattle.pdb_frames.specs.FailingParts.{told};
-ghost use Rattle.pdb_frames.specs.Failing.{failing_at, failing_if_held};
-ghost use Rattle.pdb_frames.specs.FramesAt.{frames_at as frames_at_place, frames_if_held};
-ghost use Rattle.pdb_frames.specs.FramesAt.{frames_of_chosen};
-ghost use Rattle.pdb_frames.specs.Printing.{env_of};
-ghost use Rattle.pdb_frames.specs.ChosenSeen.{chosen_seen};
-ghost use Rattle.pdb_known_modules.specs.KnownModules.{ModuleData};
+ghost use Rattle.std.specs.Prelude.{◌≡◌, IfSome, Some, option_copied};
+ghost use Rattle.pdb_answers.specs.PlaceAnswers.{StayFailuresOf, failing_found, failing_held};
+ghost use Rattle.pdb_answers.specs.PlaceAnswers.{failing_on, found_seen, frames_found};
+ghost use Rattle.pdb_answers.specs.PlaceAnswers.{frames_held, told_on};
+ghost use Rattle.pdb_answers.specs.Symbolizers.{lasting};
+ghost use Rattle.pdb_frames.specs.FailingParts.{failed_after, told};
 ghost use Rattle.pdb_resolving.specs.Fault.{Answers};
 
 use crate::cached_parts::{HeldPlace, keep_parts};
@@ -48,9 +42,8 @@ pub(crate) fn chosen_frames<'a, P: ModuleProvider>(
     found: &ChosenPlace<'_, 'a, P::Info>,
 ) -> Result<Option<SharedFunctionFrames<'a>>>
     ensures same { namer.new ≡ namer.old }
-    ensures frames { Answers (λ f. f) result (frames_of_chosen parts.now
-        (env_of P.provided namer.old found.now.module_index) (option_copied found.now.known)
-        found.now.place (Some (chosen_seen found.now.chosen))) }
+    ensures frames { Answers (λ f. f) result
+        (frames_found P.provided namer.old parts.now (found_seen found.now)) }
 {
     let ChosenPlace {
         module_index,
@@ -89,16 +82,13 @@ fn frames_told<'a, P: ModuleProvider>(
     found: &ChosenPlace<'_, 'a, P::Info>,
 ) -> Result<Option<SharedFunctionFrames<'a>>>
     ensures same { namer.new ≡ namer.old }
-    ensures failed { failed.new ≡ failed_after (failing_in_module found.now.module_index
-        (option_copied found.now.known) (chosen_seen found.now.chosen)) result failed.old }
-    ensures known { (own : ℕ → Option ModuleData)
-        → own found.now.module_index ≡ option_copied found.now.known
-        → AreFailuresOf own known_failures.old → AreFailuresOf own known_failures.new }
-    ensures frames { Answers (λ f. f) result (told failed.old
-        (failing_in_module found.now.module_index (option_copied found.now.known)
-        (chosen_seen found.now.chosen)) (frames_of_chosen parts.now
-        (env_of P.provided namer.old found.now.module_index) (option_copied found.now.known)
-        found.now.place (Some (chosen_seen found.now.chosen)))) }
+    ensures failed { failed.new
+        ≡ failed_after (failing_found (found_seen found.now)) result failed.old }
+    ensures known { StayFailuresOf found.now.module_index (option_copied found.now.known)
+        known_failures.old known_failures.new }
+    ensures frames { Answers (λ f. f) result
+        (told failed.old (failing_found (found_seen found.now))
+        (frames_found P.provided namer.old parts.now (found_seen found.now))) }
 {
     let frames = chosen_frames(alloc, parts, namer, found);
     match frames {
@@ -130,19 +120,16 @@ fn frames_unless_known<'a, P: ModuleProvider>(
     known_failures: &mut KnownFailures,
     found: &ChosenPlace<'_, 'a, P::Info>,
 ) -> Result<Option<SharedFunctionFrames<'a>>>
-    requires { IfSome found.now.failing (λ part. failing_in_module found.now.module_index
-        (option_copied found.now.known) (chosen_seen found.now.chosen) ≡ Some part) }
+    requires { IfSome found.now.failing
+        (λ part. failing_found (found_seen found.now) ≡ Some part) }
     ensures same { namer.new ≡ namer.old }
-    ensures failed { failed.new ≡ failed_after (failing_in_module found.now.module_index
-        (option_copied found.now.known) (chosen_seen found.now.chosen)) result failed.old }
-    ensures known { (own : ℕ → Option ModuleData)
-        → own found.now.module_index ≡ option_copied found.now.known
-        → AreFailuresOf own known_failures.old → AreFailuresOf own known_failures.new }
-    ensures frames { Answers (λ f. f) result (told failed.old
-        (failing_in_module found.now.module_index (option_copied found.now.known)
-        (chosen_seen found.now.chosen)) (frames_of_chosen parts.now
-        (env_of P.provided namer.old found.now.module_index) (option_copied found.now.known)
-        found.now.place (Some (chosen_seen found.now.chosen)))) }
+    ensures failed { failed.new
+        ≡ failed_after (failing_found (found_seen found.now)) result failed.old }
+    ensures known { StayFailuresOf found.now.module_index (option_copied found.now.known)
+        known_failures.old known_failures.new }
+    ensures frames { Answers (λ f. f) result
+        (told failed.old (failing_found (found_seen found.now))
+        (frames_found P.provided namer.old parts.now (found_seen found.now))) }
 {
     match found.failing {
         Some(part) if failed.has(part) => {
@@ -163,13 +150,12 @@ impl<'a, 's, P: ModuleProvider> PlaceSymbolizer<'a, 's, P> {
         place: PdbInternalSectionOffset,
     ) -> Result<Option<SharedFunctionFrames<'a>>>
         ensures same { lasting self.new ≡ lasting self.old }
-        ensures failed { self.new.failed ≡ failed_after (failing_at self.old.parts
-            (scope_in P.provided self.old contribution.module_index) contribution place)
-            result self.old.failed }
-        ensures frames { Answers (λ f. f) result (told self.old.failed
-            (failing_at self.old.parts (scope_in P.provided self.old contribution.module_index)
-            contribution place) (frames_at_place self.old.parts
-            (scope_in P.provided self.old contribution.module_index) contribution place)) }
+        ensures failed { self.new.failed
+            ≡ failed_after (failing_held P.provided self.old contribution place) result
+            self.old.failed }
+        ensures frames { Answers (λ f. f) result
+            (told self.old.failed (failing_held P.provided self.old contribution place)
+            (frames_held P.provided self.old contribution place)) }
     {
         let module_index = contribution.module_index();
         let modules = self.namer.modules();
@@ -215,14 +201,9 @@ impl<'a, 's, P: ModuleProvider> PlaceSymbolizer<'a, 's, P> {
         place: PdbInternalSectionOffset,
     ) -> Result<Option<SharedFunctionFrames<'a>>>
         ensures same { lasting self.new ≡ lasting self.old }
-        ensures failed { self.new.failed ≡ failed_after (failing_if_held self.old.parts
-            (scope_in P.provided self.old) (held_at self.old.parts (Some place))) result
-            self.old.failed }
-        ensures frames { Answers (λ f. f) result (told self.old.failed
-            (failing_if_held self.old.parts (scope_in P.provided self.old)
-            (held_at self.old.parts (Some place)))
-            (frames_if_held self.old.parts (scope_in P.provided self.old)
-            (held_at self.old.parts (Some place)))) }
+        ensures failed { self.new.failed
+            ≡ failed_after (failing_on P.provided self.old place) result self.old.failed }
+        ensures frames { Answers (λ f. f) result (told_on P.provided self.old place) }
     {
         match self.parts.holder(place) {
             None => Ok(None),

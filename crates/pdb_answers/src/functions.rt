@@ -2,18 +2,13 @@
 
 ghost use Rattle.std.specs.Prelude.{◌≡◌, ◌≤◌, IfOk, IfSome, Ok, Some, option_and_then};
 ghost use Rattle.std.specs.Prelude.{option_copied, option_map};
-ghost use Rattle.pdb_addresses.specs.SectionRun.{up_to_next};
-ghost use Rattle.pdb_answers.specs.Symbolizers.{scope_in};
+ghost use Rattle.pdb_answers.specs.PlaceAnswers.{IsRunOf, database_in, far_from, function_held};
+ghost use Rattle.pdb_answers.specs.PlaceAnswers.{function_of_key, function_on};
 ghost use Rattle.pdb_frames.specs.Choice.{chosen};
-ghost use Rattle.pdb_frames.specs.FramesAt.{function_at as function_at_contribution};
 ghost use Rattle.pdb_frames.specs.FramesAt.{function_of as function_of_chosen};
-ghost use Rattle.pdb_frames.specs.Keys.{chosen_by, function_by};
-ghost use Rattle.pdb_frames.specs.NearBounds.{bounds_near};
+ghost use Rattle.pdb_frames.specs.Keys.{chosen_by};
 ghost use Rattle.pdb_frames.specs.Printing.{env_of};
-ghost use Rattle.pdb_frames.specs.Runs.{database_of, function_here as function_at_place};
-ghost use Rattle.pdb_frames.specs.Runs.{procedures_of};
 ghost use Rattle.pdb_frames.specs.ChosenSeen.{chosen_seen};
-ghost use Rattle.pdb_owners.specs.Databases.{IsOneRun, place_of as as_place};
 ghost use Rattle.pdb_owners.specs.KeyOrder.{key_module};
 ghost use Rattle.pdb_known_modules.specs.KnownModules.{procedures_in};
 ghost use Rattle.pdb_resolving.specs.Fault.{Answers};
@@ -114,8 +109,8 @@ impl<'a, 's, P: ModuleProvider> PlaceSymbolizer<'a, 's, P> {
         place: PdbInternalSectionOffset,
     ) -> Result<Option<Function>>
         ensures same { self.new ≡ self.old }
-        ensures function { Answers (λ f. f) result (Ok (function_at_contribution self.old.parts
-            (scope_in P.provided self.old contribution.module_index) contribution place)) }
+        ensures function { Answers (λ f. f) result
+            (Ok (function_held P.provided self.old contribution place)) }
     {
         let module_index = contribution.module_index();
         let modules = self.namer.modules();
@@ -139,8 +134,7 @@ impl<'a, 's, P: ModuleProvider> PlaceSymbolizer<'a, 's, P> {
         place: PdbInternalSectionOffset,
     ) -> Result<Option<Function>>
         ensures same { self.new ≡ self.old }
-        ensures function { Answers (λ f. f) result
-            (Ok (function_at_place self.old.parts (scope_in P.provided self.old) place)) }
+        ensures function { Answers (λ f. f) result (Ok (function_on P.provided self.old place)) }
     {
         match self.parts.holder(place) {
             None => Ok(None),
@@ -159,13 +153,11 @@ impl<'a, 's, P: ModuleProvider> PlaceSymbolizer<'a, 's, P> {
         limit: u32,
     ) -> Result<(Option<FunctionKey>, u32)>
         ensures same { self.new ≡ self.old }
-        ensures function { Answers (λ run. option_and_then (function_by self.old.parts
-            (scope_in P.provided self.old)) run.0) result
-            (Ok (function_at_contribution self.old.parts
-            (scope_in P.provided self.old contribution.module_index) contribution place)) }
-        ensures count { IfOk result (λ run. run.1
-            ≡ up_to_next (bounds_near self.old.parts (procedures_of
-            (scope_in P.provided self.old) (Some contribution)) place) place.offset limit) }
+        ensures function { Answers
+            (λ run. option_and_then (function_of_key P.provided self.old) run.0) result
+            (Ok (function_held P.provided self.old contribution place)) }
+        ensures count { IfOk result
+            (λ run. run.1 ≡ far_from P.provided self.old contribution place limit) }
     {
         let modules = self.namer.modules();
         let cache_place = usize::from(contribution.module_index());
@@ -188,11 +180,10 @@ impl<'a, 's, P: ModuleProvider> PlaceSymbolizer<'a, 's, P> {
     ) -> Result<(Option<FunctionKey>, u32)>
         requires { 1 ≤ limit }
         ensures same { self.new ≡ self.old }
-        ensures function { Answers (λ run. option_and_then (function_by self.old.parts
-            (scope_in P.provided self.old)) run.0) result
-            (Ok (function_at_place self.old.parts (scope_in P.provided self.old) place)) }
-        ensures count { IfOk result (λ run. IsOneRun (database_of self.old.parts
-            (scope_in P.provided self.old)) (as_place place) limit run.1) }
+        ensures function { Answers
+            (λ run. option_and_then (function_of_key P.provided self.old) run.0) result
+            (Ok (function_on P.provided self.old place)) }
+        ensures count { IsRunOf (database_in P.provided self.old) place limit result }
     {
         match self.parts.holder(place) {
             None => Ok((None, to_next_shared_bound(&self.parts, place, limit))),
@@ -206,8 +197,8 @@ impl<'a, 's, P: ModuleProvider> PlaceSymbolizer<'a, 's, P> {
     /// `OutOfMemory` alone.
     pub fn function_by_key(&mut self, alloc: Global, key: &FunctionKey) -> Result<Option<Function>>
         ensures same { self.new ≡ self.old }
-        ensures function { Answers (λ f. f) result (Ok (function_by self.old.parts
-            (scope_in P.provided self.old) key.now)) }
+        ensures function { Answers (λ f. f) result
+            (Ok (function_of_key P.provided self.old key.now)) }
     {
         let modules = self.namer.modules();
         let cache_place = usize::from(key.module_index());
@@ -238,9 +229,8 @@ impl<'a, 's, P: ModuleProvider> PlaceSymbolizer<'a, 's, P> {
         requires { 1 ≤ limit }
         ensures same { self.new ≡ self.old }
         ensures function { Answers (λ run. run.0) result
-            (Ok (function_at_place self.old.parts (scope_in P.provided self.old) place)) }
-        ensures count { IfOk result (λ run. IsOneRun (database_of self.old.parts
-            (scope_in P.provided self.old)) (as_place place) limit run.1) }
+            (Ok (function_on P.provided self.old place)) }
+        ensures count { IsRunOf (database_in P.provided self.old) place limit result }
     {
         let (key, count) = self.key_run(alloc, place, limit)?;
         let Some(key) = key else {
