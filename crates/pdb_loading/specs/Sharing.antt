@@ -1,8 +1,9 @@
 -- Modules that name one stream: it is read once, and they share it.
-use Rattle.std.specs.Prelude.{◌≡◌, ℕ, ◌⊎◌, None, Some, Ok, Err}
+use Rattle.std.specs.Prelude.{◌≡◌, ℕ, ◌≤◌, ◌⊎◌, None, Some, Ok, Err}
 use Rattle.std.specs.BTreeMap.{BTreeMap, get}
 use Rattle.std.specs.Result.{IsErrAnd}
 use Rattle.std.specs.Ordering.{nat_cmp}
+use Rattle.pdb_container.specs.Fault.{HasRisen}
 use Rattle.pdb_loading.specs.ModuleInfos.{KeptInfo, kept_info, IsSourceFault, KeepsInfo}
 use Rattle.pdb_symbols_modules.specs.DatabaseCalls.{module_info}
 use Rattle.pdb_symbols_modules.specs.Modules.{Module}
@@ -36,3 +37,11 @@ pub record IsShared (s : Streams) (m : Module) (failed : Type 0) (kept : KeptInf
     (read : BTreeMap ℕ KeptInfo) : Type 0 where
   pub own : KeepsInfo failed kept (kept_info (module_info s m))
   pub others : AreOfStreams s failed read
+
+-- One module more is stored: where the streams that were stored are the file's, but for failures
+-- since some count, it is shared with them, and they still are.
+abbrev pub SharesInfo : Streams → Module → ℕ → ℕ → BTreeMap ℕ KeptInfo → BTreeMap ℕ KeptInfo
+    → KeptInfo → Type 0
+SharesInfo s m failures failures' read read' kept = (before : ℕ) → before ≤ failures
+    → AreOfStreams s (HasRisen before failures) read
+    → IsShared s m (HasRisen before failures') kept read'

@@ -5,7 +5,7 @@ ghost use Rattle.pdb_loading.specs.Held.{kept_infos};
 ghost use Rattle.pdb_loading.specs.ModuleInfos.{answered_if_listed, kept_info, kept_as};
 ghost use Rattle.pdb_loading.specs.ModuleInfos.{KeepsFrom, KeepsInfo, KeepsInfos};
 ghost use Rattle.pdb_loading.specs.Loading.{listed};
-ghost use Rattle.pdb_loading.specs.Sharing.{in_parts_of, AreOfStreams, IsShared};
+ghost use Rattle.pdb_loading.specs.Sharing.{SharesInfo, in_parts_of};
 ghost use Rattle.pdb_container.specs.Fault.{Gives, HasRisen, kept_of};
 ghost use Rattle.pdb_container.specs.Listing.{whole};
 ghost use Rattle.pdb_symbols_modules.specs.Modules.{modules_of};
@@ -213,10 +213,8 @@ fn keep_info<'s, S: Source + Drop>(
     ensures same { S.bytes pdb.new ≡ S.bytes pdb.old }
     ensures counts { S.failures pdb.old ≤ S.failures pdb.new }
     ensures memory { IsOkUnless result Error.OutOfMemory }
-    ensures shared { IfOk result (λ k. (before : ℕ) → before ≤ S.failures pdb.old
-        → AreOfStreams (streams (S.bytes pdb.old)) (HasRisen before (S.failures pdb.old)) read.old
-        → IsShared (streams (S.bytes pdb.old)) entry.now (HasRisen before (S.failures pdb.new))
-        k read.new) }
+    ensures shared { IfOk result (SharesInfo (streams (S.bytes pdb.old)) entry.now
+        (S.failures pdb.old) (S.failures pdb.new) read.old read.new) }
 {
     let number = entry.stream().0;
     if let Some(kept) = read.get(&number) {
