@@ -17,16 +17,15 @@ use Rattle.pdb_loading.specs.declared.order.ContributionOrder.{ContributionOrder
 use Rattle.pdb_loading.specs.declared.order.ContributionOrder.TheVariants.{InOrder}
 use Rattle.pdb_frames.specs.Scopes.{Scope, scope_of, entries_of}
 use Rattle.pdb_addr2line.specs.Context.{Context, scope_in}
+pub use Rattle.pdb_addr2line.specs.ContextAnswers.{answer_of, function_of, database_in, keyed_in}
+pub use Rattle.pdb_addr2line.specs.ContextAnswers.{frames_in, files_in, files_keyed_in}
 use Rattle.pdb_owners.specs.Frames.{FunctionFrames}
-use Rattle.pdb_frames.specs.Files.{files_keyed, files_of}
+use Rattle.pdb_frames.specs.Files.{files_of}
 use Rattle.pdb_frames.specs.FrameRuns.{frames_of_places}
 use Rattle.pdb_frames.specs.FramesAt.{frames, function}
-use Rattle.pdb_frames.specs.Keys.{keyed_of}
 use Rattle.pdb_owners.specs.FileAnswers.{FileAnswer}
-use Rattle.pdb_owners.specs.declared.file_key.FileKey.{FileKey}
-use Rattle.pdb_owners.specs.declared.function_key.FunctionKey.{FunctionKey}
 use Rattle.pdb_frames.specs.Runs.{database_of}
-use Rattle.pdb_owners.specs.Databases.{Database, Keyed}
+use Rattle.pdb_owners.specs.Databases.{Database}
 use Rattle.pdb_owners.specs.FunctionOrder.{Function}
 use Rattle.pdb_loading.specs.Held.{given, names_in}
 use Rattle.pdb_loading.specs.ModuleInfos.{KeptInfo, answered_at}
@@ -177,35 +176,6 @@ address_map s = map_with InOrder s
 -- what stored modules give of the module with that index, whatever its entry
 abbrev pub answered_in : List KeptInfo → Provided
 answered_in infos number entry = answered_at infos number
-
--- the answer of a context for an address
-abbrev pub answer_of : {P : Type 0} → (P → Provided) → Context P → ℕ
-    → Result (Option FunctionFrames) Fault
-answer_of provided c a = frames c.parts (scope_in provided c) a
-
--- the function of a context at an address
-abbrev pub function_of : {P : Type 0} → (P → Provided) → Context P → ℕ → Option Function
-function_of provided c a = function c.parts (scope_in provided c) a
-
--- the functions of a context at places, and where they may change
-abbrev pub database_in : {P : Type 0} → (P → Provided) → Context P → Database Function
-database_in provided c = database_of c.parts (scope_in provided c)
-
--- the functions of a context at places, by keys
-abbrev pub keyed_in : {P : Type 0} → (P → Provided) → Context P → Keyed FunctionKey Function
-keyed_in provided c = keyed_of c.parts (scope_in provided c)
-
--- the frames of a context at places, and where they may change
-abbrev pub frames_in : {P : Type 0} → (P → Provided) → Context P → Database (Option FunctionFrames)
-frames_in provided c = frames_of_places c.parts (scope_in provided c)
-
--- the files of a context at places, and where they may change
-abbrev pub files_in : {P : Type 0} → (P → Provided) → Context P → Database FileAnswer
-files_in provided c = files_of c.parts (scope_in provided c)
-
--- the files of a context at places, by keys
-abbrev pub files_keyed_in : {P : Type 0} → (P → Provided) → Context P → Keyed FileKey FileAnswer
-files_keyed_in provided c = files_keyed c.parts (scope_in provided c)
 
 -- what the list of a context's functions goes over
 abbrev pub listing_of : {P : Type 0} → (P → Provided) → Context P → Listing

@@ -5,14 +5,14 @@ ghost use Rattle.pdb_addr2line.specs.Formatters.{context_with, formatting_of, wi
 ghost use Rattle.pdb_addresses.specs.Addresses.{IsOrdered};
 ghost use Rattle.pdb_databases.specs.Answer.{map_with};
 ghost use Rattle.pdb_databases.specs.FileAnswers.{IsContextOf, IsKnown, IsUnasked, with_context};
+ghost use Rattle.pdb_databases.specs.FileLoads.{RefusesFile, fault_of_file};
 ghost use Rattle.pdb_databases.specs.Identity.{identity_in};
 ghost use Rattle.pdb_file_views.specs.Views.{agrees, Grows};
 ghost use Rattle.pdb_loading.specs.declared.load_fault.LoadFault.TheVariants as faults;
 ghost use Rattle.pdb_loading.specs.FileFaults.{OnLoadFault};
 ghost use Rattle.pdb_loading.specs.Held.{Held as HeldValue, kept_infos, parts_held_with};
-ghost use Rattle.pdb_loading.specs.LoadFaults.{FailsLoading, Refuses};
+ghost use Rattle.pdb_loading.specs.LoadFaults.{FailsLoading};
 ghost use Rattle.pdb_loading.specs.LoadedFile.{IsLoadedWith};
-ghost use Rattle.pdb_loading.specs.Loading.{load_fault_with};
 ghost use Rattle.pdb_symbols_modules.specs.Modules.{modules_of};
 ghost use Rattle.pdb_symbols_modules.specs.Streams.{streams};
 
@@ -169,12 +169,8 @@ impl<'a, F: FileExt + Drop> FileSymbolizer<'a, F> {
         ensures unasked { IfOk result (λ s. IsUnasked s) }
         ensures same { IfErr result (λ e. e.source.contents.numbers
             ≡ source.entry.contents.numbers) }
-        ensures loaded { IfOk result (λ s. IsKnown s
-            → load_fault_with source.entry.order (streams source.entry.contents.numbers) ≡ None) }
-        ensures refused { IfErr result (λ e.
-            agrees e.source.views source.entry.contents.numbers ≡ true
-            → OnLoadFault e.fault (λ cause. Refuses cause
-            (load_fault_with source.entry.order (streams source.entry.contents.numbers)))) }
+        ensures loaded { IfOk result (λ s. IsKnown s → fault_of_file source.entry ≡ None) }
+        ensures refused { IfErr result (λ e. RefusesFile source.entry e.source e.fault) }
     {
         FileSymbolizer::open_with_flags(alloc, source, TypeFormatterFlags::default())
     }
@@ -194,12 +190,8 @@ impl<'a, F: FileExt + Drop> FileSymbolizer<'a, F> {
         ensures unasked { IfOk result (λ s. IsUnasked s) }
         ensures same { IfErr result (λ e. e.source.contents.numbers
             ≡ source.entry.contents.numbers) }
-        ensures loaded { IfOk result (λ s. IsKnown s
-            → load_fault_with source.entry.order (streams source.entry.contents.numbers) ≡ None) }
-        ensures refused { IfErr result (λ e.
-            agrees e.source.views source.entry.contents.numbers ≡ true
-            → OnLoadFault e.fault (λ cause. Refuses cause
-            (load_fault_with source.entry.order (streams source.entry.contents.numbers)))) }
+        ensures loaded { IfOk result (λ s. IsKnown s → fault_of_file source.entry ≡ None) }
+        ensures refused { IfErr result (λ e. RefusesFile source.entry e.source e.fault) }
     {
         let FileOnDemand {
             arena,
