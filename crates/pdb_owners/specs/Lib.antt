@@ -10,5 +10,6 @@ pub mod FunctionOrder
 pub mod KeyOrder
 pub mod OrderLaws
 pub mod Report
+pub mod ReportLaws
 pub mod Table
 pub mod Texts

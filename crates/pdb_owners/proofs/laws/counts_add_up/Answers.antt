@@ -6,8 +6,8 @@ use Rattle.pdb_owners.specs.FunctionOrder.{function_cmp}
 use Rattle.pdb_owners.proofs.HowMany.{how_many-split}
 use Rattle.pdb_owners.proofs.laws.counts_add_up.Goals as goal
 
-pub returns-clause-each : goal.returns-clause-each
-returns-clause-each cc' = λ m db a b c f ab bc. how_many-split (λ x. is_answer function_cmp f (counted_at m db x)) a b c ab bc
-
-pub returns-clause-none : goal.returns-clause-none
-returns-clause-none cc' = λ m db a b c ab bc. how_many-split (λ x. not (is_some (counted_at m db x))) a b c ab bc
+pub returns : goal.returns
+returns c' = record {
+  each = λ m db a b c f ab bc. how_many-split (λ x. is_answer function_cmp f (counted_at m db x)) a b c ab bc;
+  none = λ m db a b c ab bc. how_many-split (λ x. not (is_some (counted_at m db x))) a b c ab bc;
+}

@@ -7,13 +7,13 @@ use Rattle.pdb_owners.proofs.HowMany.{how_many-split}
 use Rattle.pdb_owners.proofs.RangeSums.{table_fills}
 use Rattle.pdb_owners.proofs.laws.reports_add_up.Goals as goal
 
-pub returns-clause-sum : goal.returns-clause-sum
-returns-clause-sum c = λ m db s e text order r. table_fills function_cmp function_total function_exact (counted_at m db) s (e - s) r.table r.in_order r.each
-
-pub returns-clause-joined : goal.returns-clause-joined
-returns-clause-joined cc' = λ m db a b c x y z ab bc p q r f.
-    let all = how_many-split (λ x. is_answer function_cmp f (counted_at m db x)) a b c ab bc in
-    let first = p.each f in
-    let second = q.each f in
-    let both = r.each f in
-    omega arith
+pub returns : goal.returns
+returns c' = record {
+  sum = λ m db s e text order r. table_fills function_cmp function_total function_exact (counted_at m db) s (e - s) r.table r.in_order r.each;
+  joined = λ m db a b c x y z ab bc p q r f.
+      let all = how_many-split (λ x. is_answer function_cmp f (counted_at m db x)) a b c ab bc in
+      let first = p.each f in
+      let second = q.each f in
+      let both = r.each f in
+      omega arith;
+}

@@ -5,8 +5,8 @@ use Rattle.pdb_owners.specs.OrderLaws.{function_total, function_exact}
 use Rattle.pdb_owners.proofs.UniqueLemmas.{table_unique}
 use Rattle.pdb_owners.proofs.laws.tables_are_determined.Goals as goal
 
-pub returns-clause-functions : goal.returns-clause-functions
-returns-clause-functions c = table_unique function_cmp function_total function_exact
-
-pub returns-clause-files : goal.returns-clause-files
-returns-clause-files c = table_unique file_cmp file_total file_exact
+pub returns : goal.returns
+returns c' = record {
+  functions = table_unique function_cmp function_total function_exact;
+  files = table_unique file_cmp file_total file_exact;
+}
