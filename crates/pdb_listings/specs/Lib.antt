@@ -1,5 +1,4 @@
 pub mod Contributed
-pub mod Json
 pub mod Names
 pub mod Rows
 pub mod Sizes

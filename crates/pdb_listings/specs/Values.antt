@@ -4,7 +4,7 @@ use Rattle.std.specs.Prelude.{◌∷◌, codes, length, if◌then◌else◌}
 use Rattle.std.specs.Fmt.{decimal}
 use Rattle.std.specs.List.{flat_map, list_any, repeat}
 use Rattle.pdb_owners.specs.Texts.{eight_digits}
-use Rattle.pdb_listings.specs.Json.{string_text}
+use Rattle.json_strings.specs.Json.{string_text}
 use Rattle.pdb_listings.specs.declared.value.Field.{Field}
 use Rattle.pdb_listings.specs.declared.value.Value.{Value}
 use Rattle.pdb_listings.specs.declared.value.Value.TheVariants as values

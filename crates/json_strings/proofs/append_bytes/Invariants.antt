@@ -1,7 +1,7 @@
 use Rattle.std.proofs.Common.{◌≡◌, ◌++◌, take}
 use Rattle.std.specs.List.{flat_map}
-use Rattle.pdb_listings.specs.Json.{escaped}
-use Rattle.pdb_listings.proofs.json.append_bytes.Given as goal
+use Rattle.json_strings.specs.Json.{escaped}
+use Rattle.json_strings.proofs.append_bytes.Given as goal
 
 -- what stands for the bytes so far stands after the text
 abbrev pub invariant-loop-byte : goal.invariant-loop-byte
