@@ -9,7 +9,7 @@ use Rattle.pdb_owners.specs.FileAnswers.{FileAnswer}
 use Rattle.pdb_owners.specs.FunctionOrder.{Function}
 use Rattle.pdb_owners.specs.Table.{sum_found, sum_of, sum_where}
 use Rattle.pdb_owners.specs.Texts.{text_or}
-use Rattle.pdb_listings.specs.Sizes.{file_name}
+use Rattle.pdb_listings.specs.Sizes.{path_name}
 
 -- ---- names
 
@@ -17,9 +17,9 @@ use Rattle.pdb_listings.specs.Sizes.{file_name}
 abbrev pub function_named : (List ℕ → Bool) → Function → Bool
 function_named test f = test (text_or f.name)
 
--- and of the path of a source file
-abbrev pub file_named : (List ℕ → Bool) → FileAnswer → Bool
-file_named test f = test (file_name f)
+-- and of the path of a source file, or of the folder in it
+abbrev pub file_named : Bool → (List ℕ → Bool) → FileAnswer → Bool
+file_named by_folder test f = test (path_name by_folder f)
 
 -- bytes by names
 abbrev pub Table : Type 0

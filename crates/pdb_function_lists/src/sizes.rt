@@ -72,7 +72,7 @@ fn add_file<P: ModuleProvider>(
     by_folder: bool,
 ) -> Result<(), AllocError>
     requires room { sum_of table.old + bytes < 2 ^ 64 }
-    ensures each { by_folder ≡ false → AddsNamed file_named
+    ensures each { AddsNamed (file_named by_folder)
         (files_keyed_in P.provided runs.old.context) key.now bytes table.old table.new result }
     ensures total { AddsBytes (files_keyed_in P.provided runs.old.context) key.now bytes
         table.old table.new result }
@@ -93,7 +93,7 @@ fn name_files<P: ModuleProvider>(
     keys: &ByteCounts<FileKey>,
     by_folder: bool,
 ) -> Result<ByteCounts<Named>, AllocError>
-    ensures each { by_folder ≡ false → SumsNamed file_named
+    ensures each { SumsNamed (file_named by_folder)
         (files_keyed_in P.provided runs.old.context) keys.now result }
     ensures total { SumsBytes (files_keyed_in P.provided runs.old.context) keys.now result }
 {
@@ -145,7 +145,7 @@ pub fn file_sizes<P: ModuleProvider>(
 ) -> Result<ByteCounts<Named>, AllocError>
     requires ordered { IsOrdered map.now }
     requires order { start ≤ end }
-    ensures each { by_folder ≡ false → CountsNamed file_named map.now
+    ensures each { CountsNamed (file_named by_folder) map.now
         (files_keyed_in P.provided context.entry) start end result }
     ensures total { CountsBytes map.now (files_keyed_in P.provided context.entry) start end result }
 {

@@ -1,6 +1,7 @@
 -- Bytes by name, and what changed between two lists of them.
-use Rattle.std.specs.Prelude.{ℕ, ◌-◌, ◌^◌, Bool, List, codes, string_bytes, if◌then◌else◌}
-use Rattle.std.specs.List.{sum_by}
+use Rattle.std.specs.Prelude.{◌≡◌, ℕ, ◌+◌, ◌-◌, ◌^◌, ◌<◌, ◌==◌, ◌||◌, Bool, List, [], ◌∷◌, codes, drop}
+use Rattle.std.specs.Prelude.{false, if◌then◌else◌, length, slice_index, string_bytes, true}
+use Rattle.std.specs.List.{list_any, sum_by}
 use Rattle.std.specs.Cmp.Lexicographic.{slice_cmp}
 use Rattle.std.specs.Ordering.{nat_cmp}
 use Rattle.std.proofs.lemmas.Map.Lookups.{CmpEqualImpliesEq, exact_bytes}
@@ -48,9 +49,33 @@ old_where test changes = sum_by (old_in test) changes
 abbrev pub new_where : (List ℕ → Bool) → List Change → ℕ
 new_where test changes = sum_by (new_in test) changes
 
+-- a byte that parts a path
+abbrev pub is_separator : ℕ → Bool
+is_separator b = (b == 47) || (b == 92)
+
+-- a separator stands at this place of a path, and none after it
+pub record IsLastSeparator (path : List ℕ) (place : ℕ) : Type 0 where
+  pub within : place < length path
+  pub there : is_separator (slice_index path place) ≡ true
+  pub none_after : list_any is_separator (drop (place + 1) path) ≡ false
+
+-- the folder of a path: what stands before its last separator; nothing where there is none
+abbrev pub folder : List ℕ → List ℕ
+folder [] = []
+folder (b ∷ bs) = if list_any is_separator bs then b ∷ folder bs else []
+
 -- the path by which a source file is counted
 abbrev pub file_name : FileAnswer → List ℕ
 file_name Nothing = codes "(no file)"
 file_name Unreadable = codes "(unreadable)"
 file_name NoFile = codes "(no file)"
 file_name (File path) = path
+
+-- the folder by which it is counted
+abbrev pub folder_name : FileAnswer → List ℕ
+folder_name (File path) = folder path
+folder_name answer = file_name answer
+
+-- the one or the other
+abbrev pub path_name : Bool → FileAnswer → List ℕ
+path_name by_folder answer = if by_folder then folder_name answer else file_name answer

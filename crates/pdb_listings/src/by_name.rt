@@ -3,7 +3,7 @@
 ghost use Rattle.std.specs.Prelude.{◌≡◌, false, IfOk, string_bytes};
 ghost use Rattle.pdb_owners.specs.FileAnswers.{FileAnswer as FileValue};
 ghost use Rattle.pdb_owners.specs.Texts.{text_or};
-ghost use Rattle.pdb_listings.specs.Sizes.{file_name as name_of_file};
+ghost use Rattle.pdb_listings.specs.Sizes.{path_name};
 
 use crate::names::listed_name;
 use crate::sizes::folder_of;
@@ -30,7 +30,7 @@ pub fn function_name(
 
 /// The name that a source file is counted by: its path, or its folder.
 pub fn file_name(file: &CountedFile, by_folder: bool) -> &str
-    ensures { by_folder ≡ false → result.now ≡ name_of_file file.now }
+    ensures { result.now ≡ path_name by_folder file.now }
 {
     match &file.answer {
         FileAnswer::File(name) if by_folder => folder_of(name.as_str()),

@@ -1,10 +1,12 @@
 //! Bytes by name.
 
 ghost use Rattle.std.specs.Prelude.{◌≡◌, ℕ, ◌+◌, ◌-◌, ◌^◌, ◌<◌, Bool, List, IfOk, OnOk, map, min};
-ghost use Rattle.std.specs.Prelude.{if◌then◌else◌};
+ghost use Rattle.std.specs.Prelude.{MatchOption, false, if◌then◌else◌};
+ghost use Rattle.std.specs.List.{list_any};
 ghost use Rattle.std.specs.List.Sorted.{IsNonDecreasingBy, IsPermutation};
 ghost use Rattle.pdb_owners.specs.Table.{sum_of, sum_where};
-ghost use Rattle.pdb_listings.specs.Sizes.{bytes_of, lack_of, size_seen};
+ghost use Rattle.pdb_listings.specs.Sizes.{IsLastSeparator, bytes_of, folder, is_separator};
+ghost use Rattle.pdb_listings.specs.Sizes.{lack_of, size_seen};
 
 use crate::byte_counts::ByteCounts;
 use crate::named::Named;
@@ -42,15 +44,21 @@ pub fn add_bytes(
 }
 
 /// The folder of a path: what stands before its last slash or backslash; empty where it has none.
-pub fn folder_of(path: &str) -> &str {
+#[tactic(auto, using(crate::proofs::Folders::folder_at, crate::proofs::Folders::no_folder))]
+pub fn folder_of(path: &str) -> &str
+    ensures { result.now ≡ folder path.now }
+{
     match last_separator(path.as_bytes()) {
-        Some(place) => path.get(..place).unwrap_or(""),
+        Some(place) => &path[..place],
         None => "",
     }
 }
 
 /// The place of the last slash or backslash.
-fn last_separator(path: &[u8]) -> Option<usize> {
+fn last_separator(path: &[u8]) -> Option<usize>
+    ensures { MatchOption result (list_any is_separator path.now ≡ false)
+        (IsLastSeparator path.now) }
+{
     let mut place = path.len();
     while place > 0 {
         place -= 1;

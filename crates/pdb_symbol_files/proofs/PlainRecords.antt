@@ -1,9 +1,16 @@
 -- Records of what is plain are plain.
+use Rattle.pdb_symbol_files.specs.Records.{SymbolRecords}
+use Rattle.std.proofs.Common.{◌≡◌, ◌∙◌, ap, refl}
 use Rattle.std.proofs.Common.{ℕ, ◌+◌, ◌-◌, ◌<◌, ◌≤◌, ◌^◌, List, [], ◌∷◌, ◌++◌, Bool, true, false}
 use Rattle.std.proofs.Common.{cond, arith, zero, suc, map, length, max}
 use Rattle.std.specs.Prelude.{Option, None, Some, IfSome, slice_get, take, codes, ◌&&◌, ◌==◌, not}
 use Rattle.std.specs.List.{AllByRecursion, flat_map, fold, list_any, prefix_len}
 use Rattle.std.specs.Str.{bytes_eq}
+use Rattle.pdb_symbol_files.specs.Lookup.{HasTwoRoads, lookup}
+use Rattle.pdb_symbol_files.specs.PlainAnswers.{HasTextRoads, records_read}
+use Rattle.pdb_symbol_files.specs.Reading.{Numbered, ReadRecords, ReadsBack, numbered_from}
+use Rattle.pdb_symbol_files.specs.Reading.{read_text}
+use Rattle.pdb_symbol_files.specs.RecordTexts.{functions_text, numbers_text}
 use Rattle.pdb_symbol_files.specs.PlainAnswers.{ArePlainAnswers, IsPlainAnswer}
 use Rattle.pdb_symbol_files.specs.PlainAnswers.{IsPlainCall, IsPlainTold, MakesPlain}
 use Rattle.pdb_symbol_files.specs.Reading.{IsPlain, IsPlainFunction, IsPlainInline}
@@ -297,3 +304,29 @@ plain_records answers p few countable =
           (λ (f : Stretch Answer) (q : IsPart n f).
           plain_function ns n f countable.0 countable.1 q few) each;
     }
+
+-- ---- by the text
+
+texts_of : (n : ℕ) (texts : List (List ℕ))
+    → map (λ (f : Numbered). f.text) (numbered_from n texts) ≡ texts
+texts_of n [] = refl
+texts_of n (t ∷ texts) = ap (λ (xs : List (List ℕ)). t ∷ xs) (texts_of (n + 1) texts)
+
+same_read : (r : SymbolRecords) → ReadsBack r
+    → records_read (read_text (numbers_text r ++ functions_text r)) ≡ r
+same_read r e =
+    let made : List (List ℕ) → List (List ℕ) → SymbolRecords
+    = λ (files origins : List (List ℕ)).
+    record { numbers = record { files = files; origins = origins }; functions = r.functions } in
+    ap (λ (x : ReadRecords). records_read x) e
+    ∙ ap (λ (files : List (List ℕ)). made files
+    (map (λ (f : Numbered). f.text) (numbered_from 0 (r.numbers).origins)))
+    (texts_of 0 (r.numbers).files)
+    ∙ ap (λ (origins : List (List ℕ)). made (r.numbers).files origins)
+    (texts_of 0 (r.numbers).origins)
+
+pub text_roads : (answers : List Answer) → HasTwoRoads answers → ReadsBack (symbol_records answers)
+    → HasTextRoads answers
+text_roads answers roads back address =
+    ap (λ (r : SymbolRecords). lookup r address) (same_read (symbol_records answers) back)
+    ∙ roads address

@@ -1,7 +1,10 @@
 -- What is told has no control character, and its numbers have 64 bits at most.
+use Rattle.std.specs.Prelude.{◌≡◌, ℕ, ◌++◌, map}
 use Rattle.std.specs.Prelude.{◌^◌, ◌<◌, List, length}
 use Rattle.std.specs.List.{AllByRecursion}
-use Rattle.pdb_symbol_files.specs.Reading.{ArePlain, IsPlain}
+use Rattle.pdb_symbol_files.specs.Lookup.{lookup, told_at}
+use Rattle.pdb_symbol_files.specs.Reading.{ArePlain, IsPlain, ReadRecords, read_text}
+use Rattle.pdb_symbol_files.specs.RecordTexts.{functions_text, numbers_text}
 use Rattle.pdb_symbol_files.specs.Records.{SymbolRecords, symbol_records}
 use Rattle.pdb_symbol_files.specs.Told.{Answer, Call, Told}
 
@@ -30,3 +33,23 @@ AreCountable r = (length (r.numbers).files < 2 ^ 64) × (length (r.numbers).orig
 abbrev pub MakesPlain : List Answer → Type 0
 MakesPlain answers = ArePlainAnswers answers → length answers < 2 ^ 64
     → AreCountable (symbol_records answers) → ArePlain (symbol_records answers)
+
+-- ---- the law
+
+-- the records that were read, of files and inlined functions by their places
+abbrev pub records_read : ReadRecords → SymbolRecords
+records_read r = record {
+  numbers = record {
+    files = map (λ f. f.text) r.files;
+    origins = map (λ f. f.text) r.origins;
+  };
+  functions = r.functions;
+}
+
+-- The law of two roads, by the text: a consumer that reads the text of records says of each address
+-- what is told of it, and nothing where nothing is told.
+abbrev pub HasTextRoads : List Answer → Type 0
+HasTextRoads answers =
+    let r = symbol_records answers in
+    (address : ℕ) → lookup (records_read (read_text (numbers_text r ++ functions_text r))) address
+    ≡ told_at answers address

@@ -3,7 +3,8 @@
 ghost use Rattle.std.specs.Prelude.{ℕ, List, ◌<◌, ◌^◌, length};
 ghost use Rattle.std.specs.Str.{IsUtf8};
 ghost use Rattle.pdb_symbol_files.specs.Lookup.{HasTwoRoads, IsAscending};
-ghost use Rattle.pdb_symbol_files.specs.PlainAnswers.{ArePlainAnswers, AreCountable, MakesPlain};
+ghost use Rattle.pdb_symbol_files.specs.PlainAnswers.{ArePlainAnswers, AreCountable, HasTextRoads};
+ghost use Rattle.pdb_symbol_files.specs.PlainAnswers.{MakesPlain};
 ghost use Rattle.pdb_symbol_files.specs.Reading.{ArePlain, IsPlain, ReadsBack};
 ghost use Rattle.pdb_symbol_files.specs.Records.{SymbolRecords, symbol_records};
 ghost use Rattle.pdb_symbol_files.specs.Texts.{text_of};
@@ -35,4 +36,12 @@ pub fn plain_records()
     ensures plain { (answers : List Answer) → MakesPlain answers }
     ensures back { (answers : List Answer) → ArePlainAnswers answers → length answers < 2 ^ 64
         → AreCountable (symbol_records answers) → ReadsBack (symbol_records answers) }
+{}
+
+/// The law of two roads, by the text: for each address, what a consumer says that reads the text of
+/// the records is what is told of it, innermost frame first; nothing where nothing is told.
+pub fn text_roads()
+    ensures { (answers : List Answer) → IsAscending 0 answers → ArePlainAnswers answers
+        → length answers < 2 ^ 64 → AreCountable (symbol_records answers)
+        → HasTextRoads answers }
 {}

@@ -1,7 +1,7 @@
 use Rattle.std.proofs.Common.{◌∙◌, true}
 use Rattle.pdb_owners.specs.Answers.{picked}
 use Rattle.pdb_owners.specs.FileAnswers.{FileAnswer}
-use Rattle.pdb_listings.specs.Sizes.{file_name}
+use Rattle.pdb_listings.specs.Sizes.{path_name}
 use Rattle.pdb_addr2line.specs.ContextAnswers.{files_keyed_in}
 use Rattle.pdb_function_lists.proofs.Sums.{entry_added, entry_room}
 use Rattle.pdb_function_lists.proofs.sizes.name_files.Goals as goal
@@ -13,8 +13,8 @@ loop-key-preserved g c =
     let now = keyed c.loop-key.runs.context in
     let i = c.loop-key.invariant in
     record {
-      each = λ whole test. entry_added kd now (λ (f : FileAnswer). test (file_name f)) c.in-Some.key.now c.in-Some.bytes.now c.next.new.self c.loop-key.key-iterator
-          _ _ _ c.in-Some.ensures.steps i.same (c.in_ok-add_file.ensures.each whole test) (i.each whole test);
+      each = λ test. entry_added kd now (λ (f : FileAnswer). test (path_name c.args.by_folder f)) c.in-Some.key.now c.in-Some.bytes.now c.next.new.self c.loop-key.key-iterator
+          _ _ _ c.in-Some.ensures.steps i.same (c.in_ok-add_file.ensures.each test) (i.each test);
       total = entry_added kd now (λ (f : FileAnswer). true) c.in-Some.key.now c.in-Some.bytes.now c.next.new.self c.loop-key.key-iterator
           _ _ _ c.in-Some.ensures.steps i.same c.in_ok-add_file.ensures.total i.total;
       room = entry_room (picked (λ (f : FileAnswer). true) (now.answer_of c.in-Some.key.now)) c.in-Some.key.now c.in-Some.bytes.now c.next.new.self c.loop-key.key-iterator

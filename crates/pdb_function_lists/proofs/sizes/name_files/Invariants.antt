@@ -1,7 +1,7 @@
-use Rattle.std.proofs.Common.{◌≡◌, ℕ, ◌+◌, ◌≤◌, Bool, true, false, List}
+use Rattle.std.proofs.Common.{◌≡◌, ℕ, ◌+◌, ◌≤◌, Bool, true, List}
 use Rattle.pdb_owners.specs.FileAnswers.{FileAnswer}
 use Rattle.pdb_owners.specs.Table.{sum_found, sum_of, sum_where}
-use Rattle.pdb_listings.specs.Sizes.{file_name}
+use Rattle.pdb_listings.specs.Sizes.{path_name}
 use Rattle.pdb_addr2line.specs.ContextAnswers.{files_keyed_in}
 use Rattle.pdb_function_lists.proofs.sizes.name_files.Given as goal
 
@@ -10,9 +10,9 @@ abbrev pub invariant-loop-key : goal.invariant-loop-key
 invariant-loop-key g l =
     let keyed = files_keyed_in g.P.ModuleProvider.provided l.fn.runs.context in
     record {
-      each : l.by_folder ≡ false → (test : List ℕ → Bool)
-          → sum_where test l.table + sum_found keyed.answer_of (λ (f : FileAnswer). test (file_name f)) l.key-iterator
-          ≡ sum_found keyed.answer_of (λ (f : FileAnswer). test (file_name f)) l.keys;
+      each : (test : List ℕ → Bool)
+          → sum_where test l.table + sum_found keyed.answer_of (λ (f : FileAnswer). test (path_name l.by_folder f)) l.key-iterator
+          ≡ sum_found keyed.answer_of (λ (f : FileAnswer). test (path_name l.by_folder f)) l.keys;
       total : sum_of l.table + sum_found keyed.answer_of (λ _. true) l.key-iterator
           ≡ sum_found keyed.answer_of (λ _. true) l.keys;
       room : sum_of l.table + sum_of l.key-iterator ≤ sum_of l.keys;
