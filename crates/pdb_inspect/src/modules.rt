@@ -59,13 +59,12 @@ struct PartBytes {
 impl PartBytes {
     /// Adds bytes of a part; at `u64::MAX` a sum stays.
     fn add(&mut self, part: Part, bytes: u64) {
-        let sum = match part {
-            Part::Code => &mut self.code,
-            Part::ReadOnly => &mut self.read_only,
-            Part::Written => &mut self.written,
-            Part::Zeroed => &mut self.zeroed,
-        };
-        *sum = sum.saturating_add(bytes);
+        match part {
+            Part::Code => self.code = self.code.saturating_add(bytes),
+            Part::ReadOnly => self.read_only = self.read_only.saturating_add(bytes),
+            Part::Written => self.written = self.written.saturating_add(bytes),
+            Part::Zeroed => self.zeroed = self.zeroed.saturating_add(bytes),
+        }
     }
 
     /// Whether there are none.
