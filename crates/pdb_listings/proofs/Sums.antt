@@ -1,11 +1,9 @@
 -- Sums over lists that grow by one element at a time.
 use Rattle.std.proofs.Common.{◌≡◌, ℕ, ◌+◌, ◌-◌, ◌<◌, ◌≤◌, List, [], ◌∷◌, ◌++◌, length, length-drop, get_or, take, drop, map, sym, ap, ◌∙◌, append_assoc, arith, refl}
 use Rattle.std.specs.List.{sum_by}
-use Rattle.std.specs.List.Sorted.{IsPermutation}
 use Rattle.std.specs.Prelude.{Bool, true, false, if◌then◌else◌}
 use Rattle.std.proofs.lemmas.List.{map-append, take_all}
 use Rattle.std.proofs.lemmas.List.Sums.{sum_by_more, sum_by_push, sum_by-take-drop}
-use Rattle.std.proofs.lemmas.List.Sorted.{sum_by-IsPermutation}
 use Rattle.std.specs.Prelude.{string_bytes}
 use Rattle.pdb_listings.specs.declared.changes.Change.{Change}
 use Rattle.pdb_listings.specs.declared.sizes.Size.{Size}
@@ -94,6 +92,10 @@ pub new_as : (test : List ℕ → Bool) (c : Change) (s : Size) → string_bytes
 new_as test c s named is =
     ap (λ (n : List ℕ). if test n then c.new else 0) named
     ∙ ap (λ (n : ℕ). if test (string_bytes s.name) then n else 0) is
+
+-- two sums that are two totals differ as these
+pub as_totals : (old new before after : ℕ) → old ≡ before → new ≡ after → new + before ≡ old + after
+as_totals old new before after o n = omega (arith, o, n)
 
 -- one entry of a table that was listed
 pub listed_more : (sizes : List Size) (s : Size) (rest : List (List ℕ × ℕ))

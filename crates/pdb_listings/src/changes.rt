@@ -2,8 +2,10 @@
 
 ghost use Rattle.std.specs.Prelude.{◌≡◌, ℕ, ◌+◌, ◌||◌, Bool, false, true, List, IfOk, OnOk, string_bytes};
 ghost use Rattle.std.specs.Prelude.{if◌then◌else◌};
+ghost use Rattle.std.specs.List.{sum_by};
 ghost use Rattle.pdb_listings.specs.Sizes.{bytes_where, new_in, new_where, old_in, old_where};
-ghost use Rattle.pdb_listings.specs.Sizes.{size_in};
+ghost use Rattle.pdb_listings.specs.Sizes.{bytes_of, size_in};
+ghost use Rattle.pdb_listings.specs.declared.changes.Change.{Change as Changed};
 
 use crate::sizes::Size;
 use std::alloc::{AllocError, Global};
@@ -125,6 +127,9 @@ pub fn changes_of(alloc: Global, old: &[Size], new: &[Size]) -> Result<Vec<Chang
         → old_where test changes.items ≡ bytes_where test old.now) }
     ensures new { IfOk result (λ changes. (test : List ℕ → Bool)
         → new_where test changes.items ≡ bytes_where test new.now) }
+    // What all have, less what they had, is the new total less the old one.
+    ensures total { IfOk result (λ changes. sum_by (λ (c : Changed). c.new) changes.items
+        + bytes_of old.now ≡ sum_by (λ (c : Changed). c.old) changes.items + bytes_of new.now) }
 {
     let mut changes = Vec::new(alloc);
     let mut i = 0;

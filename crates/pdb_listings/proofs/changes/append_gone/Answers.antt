@@ -1,6 +1,5 @@
-use Rattle.std.proofs.Common.{ℕ, ◌+◌, List, ap, ◌∙◌}
-use Rattle.std.specs.Prelude.{Bool}
-use Rattle.pdb_listings.specs.Sizes.{new_in, new_where, old_in, old_where, size_in}
+use Rattle.std.proofs.Common.{◌+◌, ap, ◌∙◌}
+use Rattle.pdb_listings.specs.Sizes.{new_in, old_in, old_where, size_in}
 use Rattle.pdb_listings.proofs.Sums.{all_taken, pushed_more, pushed_none}
 use Rattle.pdb_listings.proofs.changes.append_gone.Goals as goal
 
