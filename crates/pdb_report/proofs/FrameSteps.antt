@@ -13,8 +13,8 @@ use Rattle.pdb_loading.specs.LoadedFile.{FileBytes}
 use Rattle.pdb_loading.specs.LoadFaults.{Refuses}
 use Rattle.pdb_loading.specs.Loading.{LoadingFault, load_fault_with}
 use Rattle.pdb_report.specs.Answer.{answer_with}
-use Rattle.pdb_report.specs.FrameReports.{FramesOf, ReportsFrames, frames_with, frames_loaded}
-use Rattle.pdb_report_texts.specs.AddressText.{AddressAnswers, line_text}
+use Rattle.pdb_report.specs.FrameReports.{FramesOf, LineText, ReportsFramesIn, frames_with, frames_loaded}
+use Rattle.pdb_report_texts.specs.AddressText.{AddressAnswers}
 use Rattle.pdb_report_texts.specs.declared.fault.RunFault.{RunFault}
 use Rattle.pdb_report_texts.specs.declared.fault.RunFault.TheVariants as runs
 use Rattle.pdb_report_texts.specs.RunFaults.{run_fault_of, run_fault_of_input}
@@ -23,10 +23,10 @@ use Rattle.pdb_symbols_modules.specs.Streams.{streams}
 use Rattle.pdb_report.proofs.FileFaults.{nothing_out}
 use Rattle.pdb_report.proofs.IsolationLaw.{exchanged_out, isolated}
 
-module _ {R W : Type 0} (remaining : R → Option (List ℕ)) (contents : W → Option (List ℕ)) (limit : ℕ) where
+module _ {R W : Type 0} (text : LineText) (remaining : R → Option (List ℕ)) (contents : W → Option (List ℕ)) (limit : ℕ) where
   -- nothing was read and nothing written, where a file is refused
   pub refused : {T : Type 0} (f : FramesOf) (reader : Watched R) (writer : Watched W) (e : LoadFault) → Refuses e f.fault
-      → ReportsFrames {T = T} f limit remaining contents reader reader writer writer (Err (run_fault_of e))
+      → ReportsFramesIn {T = T} text f limit remaining contents reader reader writer writer (Err (run_fault_of e))
   refused f reader writer faults.OutOfMemory h = record {
     load = tt;
     loaded = tt;
@@ -38,7 +38,7 @@ module _ {R W : Type 0} (remaining : R → Option (List ℕ)) (contents : W → 
     write_fails = tt;
     read_out = tt;
     too_long = tt;
-    part = nothing_out contents writer (remaining (inner_of reader)) (report (line_text f.answer));
+    part = nothing_out contents writer (remaining (inner_of reader)) (report (text f.answer));
     isolated = isolated f.bytes;
     exchanged = tt;
   }
@@ -53,33 +53,33 @@ module _ {R W : Type 0} (remaining : R → Option (List ℕ)) (contents : W → 
     write_fails = tt;
     read_out = tt;
     too_long = tt;
-    part = nothing_out contents writer (remaining (inner_of reader)) (report (line_text f.answer));
+    part = nothing_out contents writer (remaining (inner_of reader)) (report (text f.answer));
     isolated = isolated f.bytes;
     exchanged = tt;
   }
 
   -- nor where memory is short
   pub lacking : {T : Type 0} (f : FramesOf) (reader : Watched R) (writer : Watched W)
-      → ReportsFrames {T = T} f limit remaining contents reader reader writer writer (Err runs.OutOfMemory)
+      → ReportsFramesIn {T = T} text f limit remaining contents reader reader writer writer (Err runs.OutOfMemory)
   lacking f reader writer = refused f reader writer faults.OutOfMemory tt
 
   module _ {T : Type 0} (reader reader' : Watched R) (writer writer' : Watched W) where
     -- a file that was loaded has no loading fault
     pub of_loaded : (order : ContributionOrder) (file : FileBytes) (bytes : List ℕ) (result : Result T RunFault) → file ≡ record { bytes = bytes; order = order } → load_fault_with order (streams bytes) ≡ None
-        → ReportsFrames (frames_loaded file) limit remaining contents reader reader' writer writer' result
-        → ReportsFrames (frames_with order bytes) limit remaining contents reader reader' writer writer' result
+        → ReportsFramesIn text (frames_loaded file) limit remaining contents reader reader' writer writer' result
+        → ReportsFramesIn text (frames_with order bytes) limit remaining contents reader reader' writer writer' result
     of_loaded order file bytes result same none r =
-        subst (λ (fault : Option LoadingFault). ReportsFrames (record { bytes = bytes; order = order; fault = fault; answer = answer_with order (streams bytes) }) limit remaining contents reader reader' writer writer' result) (sym none)
-        (subst (λ (f : FileBytes). ReportsFrames (frames_loaded f) limit remaining contents reader reader' writer writer' result) same r)
+        subst (λ (fault : Option LoadingFault). ReportsFramesIn text (record { bytes = bytes; order = order; fault = fault; answer = answer_with order (streams bytes) }) limit remaining contents reader reader' writer writer' result) (sym none)
+        (subst (λ (f : FileBytes). ReportsFramesIn text (frames_loaded f) limit remaining contents reader reader' writer writer' result) same r)
 
     -- what a run by answers that are the file's says, where it ends well
     pub ended_well : (file : FileBytes) (own : AddressAnswers) (done : T) → own ≡ answer_with file.order (streams file.bytes)
-        → IfSome (remaining (inner_of reader)) (λ input. (length input ≤ limit) × Writes contents writer writer' (report (line_text own) input))
+        → IfSome (remaining (inner_of reader)) (λ input. (length input ≤ limit) × Writes contents writer writer' (report (text own) input))
         → IsQuiet reader reader' × IsQuiet writer writer'
-        → ReportsFrames (frames_loaded file) limit remaining contents reader reader' writer writer' (Ok done)
+        → ReportsFramesIn text (frames_loaded file) limit remaining contents reader reader' writer writer' (Ok done)
     ended_well file own done same ok quiet =
-        let out : IfSome (remaining (inner_of reader)) (λ input. (length input ≤ limit) × Writes contents writer writer' (report (line_text (answer_with file.order (streams file.bytes))) input)) =
-        subst (λ (f : AddressAnswers). IfSome (remaining (inner_of reader)) (λ input. (length input ≤ limit) × Writes contents writer writer' (report (line_text f) input))) same ok in
+        let out : IfSome (remaining (inner_of reader)) (λ input. (length input ≤ limit) × Writes contents writer writer' (report (text (answer_with file.order (streams file.bytes))) input)) =
+        subst (λ (f : AddressAnswers). IfSome (remaining (inner_of reader)) (λ input. (length input ≤ limit) × Writes contents writer writer' (report (text f) input))) same ok in
         record {
           load = tt;
           loaded = refl;
@@ -93,7 +93,7 @@ module _ {R W : Type 0} (remaining : R → Option (List ℕ)) (contents : W → 
           too_long = tt;
           part = tt;
           isolated = isolated file.bytes;
-          exchanged = exchanged_out {T = T} {E = RunFault} file.order file.bytes (Ok done) (remaining (inner_of reader)) (λ input. length input ≤ limit) (λ answers input. Writes contents writer writer' (report (line_text answers) input)) out;
+          exchanged = exchanged_out {T = T} {E = RunFault} file.order file.bytes (Ok done) (remaining (inner_of reader)) (λ input. length input ≤ limit) (λ answers input. Writes contents writer writer' (report (text answers) input)) out;
         }
 
     -- and where it ends early
@@ -101,10 +101,10 @@ module _ {R W : Type 0} (remaining : R → Option (List ℕ)) (contents : W → 
         → inputs.IsOfRunning fault
         → inputs.OnRead fault (λ kind. CountsFailure reader reader' kind)
         → inputs.OnWrite fault (λ kind. CountsFailure writer writer' kind)
-        → inputs.OnRead fault (λ _. (taken : List ℕ) × Takes remaining reader reader' taken × Writes contents writer writer' (report_of_ended (line_text own) taken))
-        → inputs.OnTooLong fault (IfSome (remaining (inner_of reader)) (λ input. (limit < length input) × Writes contents writer writer' (report_of_ended (line_text own) (take limit input))))
-        → IfSome (remaining (inner_of reader)) (λ input. WritesFront contents writer writer' (report (line_text own) input))
-        → ReportsFrames {T = T} (frames_loaded file) limit remaining contents reader reader' writer writer' (Err (run_fault_of_input fault))
+        → inputs.OnRead fault (λ _. (taken : List ℕ) × Takes remaining reader reader' taken × Writes contents writer writer' (report_of_ended (text own) taken))
+        → inputs.OnTooLong fault (IfSome (remaining (inner_of reader)) (λ input. (limit < length input) × Writes contents writer writer' (report_of_ended (text own) (take limit input))))
+        → IfSome (remaining (inner_of reader)) (λ input. WritesFront contents writer writer' (report (text own) input))
+        → ReportsFramesIn {T = T} text (frames_loaded file) limit remaining contents reader reader' writer writer' (Err (run_fault_of_input fault))
     ended_early file own fault same kind read_fails write_fails read_out too_long part = record {
       load = on_load fault _;
       loaded = unless_load {A = T} (Err (run_fault_of_input fault)) _ refl;
@@ -116,7 +116,7 @@ module _ {R W : Type 0} (remaining : R → Option (List ℕ)) (contents : W → 
       isolated = isolated file.bytes;
       read_fails = on_read fault _ read_fails;
       write_fails = on_write fault _ write_fails;
-      read_out = on_read fault _ (subst (λ (f : AddressAnswers). inputs.OnRead fault (λ _. (taken : List ℕ) × Takes remaining reader reader' taken × Writes contents writer writer' (report_of_ended (line_text f) taken))) same read_out);
-      too_long = on_too_long fault _ (subst (λ (f : AddressAnswers). inputs.OnTooLong fault (IfSome (remaining (inner_of reader)) (λ input. (limit < length input) × Writes contents writer writer' (report_of_ended (line_text f) (take limit input))))) same too_long);
-      part = subst (λ (f : AddressAnswers). IfSome (remaining (inner_of reader)) (λ input. WritesFront contents writer writer' (report (line_text f) input))) same part;
+      read_out = on_read fault _ (subst (λ (f : AddressAnswers). inputs.OnRead fault (λ _. (taken : List ℕ) × Takes remaining reader reader' taken × Writes contents writer writer' (report_of_ended (text f) taken))) same read_out);
+      too_long = on_too_long fault _ (subst (λ (f : AddressAnswers). inputs.OnTooLong fault (IfSome (remaining (inner_of reader)) (λ input. (limit < length input) × Writes contents writer writer' (report_of_ended (text f) (take limit input))))) same too_long);
+      part = subst (λ (f : AddressAnswers). IfSome (remaining (inner_of reader)) (λ input. WritesFront contents writer writer' (report (text f) input))) same part;
     }

@@ -59,9 +59,14 @@ frames_of source = frames_with source.order source.contents.numbers
 abbrev pub answers_in : FileAnswers → AddressAnswers
 answers_in f = answer_with f.order (streams f.contents)
 
--- The report on an input of up to so many bytes: how the run ends, by what the reader has left and
--- the writer contains, where that is known, and by both before and after the run.
-pub record ReportsFrames {R W T : Type 0} (f : FramesOf) (limit : ℕ)
+-- what is written for a line, by the answers
+abbrev pub LineText : Type 0
+LineText = AddressAnswers → List ℕ → List ℕ
+
+-- The report on an input of up to so many bytes, with what is written for a line: how the run ends,
+-- by what the reader has left and the writer contains, where that is known, and by both before and
+-- after the run.
+pub record ReportsFramesIn {R W T : Type 0} (text : LineText) (f : FramesOf) (limit : ℕ)
     (remaining : R → Option (List ℕ)) (contents : W → Option (List ℕ))
     (reader reader' : Watched R) (writer writer' : Watched W) (result : Result T RunFault)
     : Type 0 where
@@ -77,7 +82,7 @@ pub record ReportsFrames {R W T : Type 0} (f : FramesOf) (limit : ℕ)
       ((f.fault ≡ None) ⊎ ((reader' ≡ reader) × (writer' ≡ writer))))
   -- where the run ends well, the report on the whole input is out
   pub ok : OnOk result (IfSome (remaining (inner_of reader)) (λ input. (length input ≤ limit)
-      × Writes contents writer writer' (report (line_text f.answer) input)))
+      × Writes contents writer writer' (report (text f.answer) input)))
   -- and neither end failed
   pub quiet : OnOk result (IsQuiet reader reader' × IsQuiet writer writer')
   -- a failed read is one of this run, with its kind
@@ -87,25 +92,33 @@ pub record ReportsFrames {R W T : Type 0} (f : FramesOf) (limit : ℕ)
   -- the complete lines before a failed read are answered
   pub read_out : IfErr result (λ fault. OnRead fault (λ _. (taken : List ℕ)
       × Takes remaining reader reader' taken
-      × Writes contents writer writer' (report_of_ended (line_text f.answer) taken)))
+      × Writes contents writer writer' (report_of_ended (text f.answer) taken)))
   -- the complete lines among the first bytes of a too long input are answered
   pub too_long : IfErr result (λ fault. OnTooLong fault
       (IfSome (remaining (inner_of reader)) (λ input. (limit < length input)
-      × Writes contents writer writer' (report_of_ended (line_text f.answer) (take limit input)))))
+      × Writes contents writer writer' (report_of_ended (text f.answer) (take limit input)))))
   -- at every fault what is out is a prefix of the report
   pub part : OnErr result (IfSome (remaining (inner_of reader)) (λ input.
-      WritesFront contents writer writer' (report (line_text f.answer) input)))
+      WritesFront contents writer writer' (report (text f.answer) input)))
   -- every file that is alike for the module that holds an address answers it alike
   pub isolated : IsIsolated f.bytes
   -- where the run ends well, the report is also that with the lines of one module's addresses
   -- answered by such a file
   pub exchanged : OnOk result (IfSome (remaining (inner_of reader)) (λ input.
       (other : List ℕ) (m : ℕ) → AreAlikeFor m f.bytes other → Writes contents writer writer'
-      (report (line_text (exchanged_with f.order m (streams f.bytes) (streams other))) input)))
+      (report (text (exchanged_with f.order m (streams f.bytes) (streams other))) input)))
+
+-- The same with lines of text.
+abbrev pub ReportsFrames : {R W T : Type 0} → FramesOf → ℕ → (R → Option (List ℕ))
+    → (W → Option (List ℕ)) → Watched R → Watched R → Watched W → Watched W → Result T RunFault
+    → Type 0
+ReportsFrames f limit remaining contents reader reader' writer writer' result =
+    ReportsFramesIn line_text f limit remaining contents reader reader' writer writer' result
 
 -- The same over a file that is read on demand. What is said of the file's bytes holds where they
 -- agree with what was read, which `known` says.
-pub record ReportsIfKnown {R W T : Type 0} (known : Type 0) (f : FramesOf) (limit : ℕ)
+pub record ReportsIfKnown {R W T : Type 0} (known : Type 0) (text : LineText) (f : FramesOf)
+    (limit : ℕ)
     (remaining : R → Option (List ℕ)) (contents : W → Option (List ℕ))
     (reader reader' : Watched R) (writer writer' : Watched W) (result : Result T RunFault)
     : Type 0 where
@@ -124,7 +137,7 @@ pub record ReportsIfKnown {R W T : Type 0} (known : Type 0) (f : FramesOf) (limi
   -- where the run ends well, the report on the whole input is out
   pub ok : known → OnOk result (IfSome (remaining (inner_of reader)) (λ input.
       (length input ≤ limit)
-      × Writes contents writer writer' (report (line_text f.answer) input)))
+      × Writes contents writer writer' (report (text f.answer) input)))
   -- and neither end failed
   pub quiet : OnOk result (IsQuiet reader reader' × IsQuiet writer writer')
   -- a failed read is one of this run, with its kind
@@ -134,31 +147,43 @@ pub record ReportsIfKnown {R W T : Type 0} (known : Type 0) (f : FramesOf) (limi
   -- the complete lines before a failed read are answered
   pub read_out : known → IfErr result (λ fault. OnRead fault (λ _. (taken : List ℕ)
       × Takes remaining reader reader' taken
-      × Writes contents writer writer' (report_of_ended (line_text f.answer) taken)))
+      × Writes contents writer writer' (report_of_ended (text f.answer) taken)))
   -- the complete lines among the first bytes of a too long input are answered
   pub too_long : known → IfErr result (λ fault. OnTooLong fault
       (IfSome (remaining (inner_of reader)) (λ input. (limit < length input)
-      × Writes contents writer writer' (report_of_ended (line_text f.answer) (take limit input)))))
+      × Writes contents writer writer' (report_of_ended (text f.answer) (take limit input)))))
   -- at every fault what is out is a prefix of the report
   pub part : known → OnErr result (IfSome (remaining (inner_of reader)) (λ input.
-      WritesFront contents writer writer' (report (line_text f.answer) input)))
+      WritesFront contents writer writer' (report (text f.answer) input)))
 
 -- The report on an input of up to 2^30 bytes by a file that is read on demand, and what is left of
 -- it: it is taken to have the same bytes, and what is said of these holds if they agree with what
 -- was read.
-pub record ReportsFileFrames {F R W : Type 0} (f : FramesOf) (remaining : R → Option (List ℕ))
-    (written : W → Option (List ℕ)) (reader reader' : Watched R) (writer writer' : Watched W)
-    (result : FileRun F) : Type 0 where
+pub record ReportsFileFramesIn {F R W : Type 0} (text : LineText) (f : FramesOf)
+    (remaining : R → Option (List ℕ)) (written : W → Option (List ℕ)) (reader reader' : Watched R)
+    (writer writer' : Watched W) (result : FileRun F) : Type 0 where
   pub contents : result.source.contents.numbers ≡ f.bytes
-  pub run : ReportsIfKnown (agrees result.source.views f.bytes ≡ true) f (2 ^ 30) remaining written
-      reader reader' writer writer' result.outcome
+  pub run : ReportsIfKnown (agrees result.source.views f.bytes ≡ true) text f (2 ^ 30) remaining
+      written reader reader' writer writer' result.outcome
+
+-- The same with lines of text.
+abbrev pub ReportsFileFrames : {F R W : Type 0} → FramesOf → (R → Option (List ℕ))
+    → (W → Option (List ℕ)) → Watched R → Watched R → Watched W → Watched W → FileRun F → Type 0
+ReportsFileFrames f remaining written reader reader' writer writer' result =
+    ReportsFileFramesIn line_text f remaining written reader reader' writer writer' result
 
 -- Where such a run ends well, the report is also that with the lines of one module's addresses
 -- answered by a file that is alike for the module.
-abbrev pub ExchangesFrames : {F R W : Type 0} → FramesOf → (R → Option (List ℕ))
+abbrev pub ExchangesFramesIn : {F R W : Type 0} → LineText → FramesOf → (R → Option (List ℕ))
     → (W → Option (List ℕ)) → Watched R → Watched W → Watched W → FileRun F → Type 0
-ExchangesFrames f remaining contents reader writer writer' result =
+ExchangesFramesIn text f remaining contents reader writer writer' result =
     agrees result.source.views f.bytes ≡ true → OnOk result.outcome
     (IfSome (remaining (inner_of reader)) (λ input.
     (other : List ℕ) (m : ℕ) → AreAlikeFor m f.bytes other → Writes contents writer writer'
-    (report (line_text (exchanged_with f.order m (streams f.bytes) (streams other))) input)))
+    (report (text (exchanged_with f.order m (streams f.bytes) (streams other))) input)))
+
+-- The same with lines of text.
+abbrev pub ExchangesFrames : {F R W : Type 0} → FramesOf → (R → Option (List ℕ))
+    → (W → Option (List ℕ)) → Watched R → Watched W → Watched W → FileRun F → Type 0
+ExchangesFrames f remaining contents reader writer writer' result =
+    ExchangesFramesIn line_text f remaining contents reader writer writer' result

@@ -1,42 +1,42 @@
 //! The report on an input, by a file that is read on demand.
 
-ghost use Rattle.std.specs.Prelude.{◌≡◌, ◌++◌, ◌^◌, OnOk, length, string_bytes, true};
+ghost use Rattle.std.specs.Prelude.{◌≡◌, ◌++◌, ◌^◌, OnOk, length, true};
 ghost use Rattle.pdb_databases.specs.FileAnswers.{IsKnown, file_of};
 ghost use Rattle.pdb_file_views.specs.Views.{agrees, Grows};
-ghost use Rattle.pdb_report.specs.FrameReports.{ExchangesFrames, ReportsFileFrames};
+ghost use Rattle.pdb_report.specs.FrameReports.{ExchangesFrames, ExchangesFramesIn};
+ghost use Rattle.pdb_report.specs.FrameReports.{ReportsFileFrames, ReportsFileFramesIn};
 ghost use Rattle.pdb_report.specs.FrameReports.{ReportsIfKnown, answers_in, frames_loaded};
 ghost use Rattle.pdb_report.specs.FrameReports.{frames_of};
 ghost use Rattle.pdb_report.specs.Isolation.{IsIsolated};
-ghost use Rattle.pdb_report_texts.specs.AddressText.{line_text};
 ghost use Rattle.pdb_report_texts.specs.RunFaults.{OnMemoryOrFile};
 
-use crate::lines::{append_found, append_no_address, append_text};
+use crate::forms::{LineForm, TextLines};
+use crate::lines::append_text;
 use crate::report::{AtEnd, let_go};
 use pdb_databases::{FileOnDemand, FileSymbolizer, NotLoaded, TRIES};
-use pdb_engine::{
-    AddressStart, Answers, InputFault, LineStart, Request, Watched, parse_address, run,
-};
+use pdb_engine::{Answers, InputFault, LineStart, Request, Watched, parse_address, run};
 use pdb_report_texts::RunFault;
 use std::alloc::{AllocError, Global};
 use std::io::{ErrorKind, Read, Write};
-use std::marker::Model;
+use std::marker::{Model, PhantomData};
 use std::os::unix::fs::FileExt;
 
 /// The most bytes of input that a run reads, as of a file that is in memory.
 const INPUT_LIMIT: u64 = 1 << 30;
 
 /// A file that is asked for the answers to lines, whose names are made with the default flags; room
-/// for a text; whether nothing was missing when the file was last to be read; and how reading it
-/// failed, if it did.
+/// for a text; whether nothing was missing when the file was last to be read; how reading it failed,
+/// if it did; and the form of texts.
 #[derive(Drop)]
-struct FileLines<'a, F: Drop> {
+struct FileLines<'a, F: Drop, L> {
     symbolizer: FileSymbolizer<'a, F>,
-    room: String,
+    room: Vec<u8>,
     is_ready: bool,
     failed: Option<ErrorKind>,
+    form: PhantomData<L>,
 }
 
-impl<'a, F: Drop> Model for FileLines<'a, F> {
+impl<'a, F: Drop, L> Model for FileLines<'a, F, L> {
     ghost use Rattle.std.specs.Prelude.{◌≡◌};
     ghost use Rattle.pdb_databases.specs.FileAnswers.{FileAnswers};
 
@@ -47,36 +47,35 @@ impl<'a, F: Drop> Model for FileLines<'a, F> {
     ghost invariant = { λ lines. lines.symbolizer.flags ≡ 23 };
 }
 
-/// Appends what is written for a line by what was read of a file.
+/// Appends what is written in a form for a line by what was read of a file.
 ///
 /// # Errors
 /// `AllocError` where memory runs out, or where something has to be read first.
-#[tactic(auto, using(crate::proofs::FileLines::found_known), unfolding(pdb_report_texts::specs::AddressText::line_text))]
-fn append_held_line<F: Drop>(
+#[tactic(auto, using(crate::proofs::FileLines::found_known))]
+fn append_held_line<L: LineForm, F: Drop>(
     alloc: Global,
     symbolizer: &mut FileSymbolizer<'_, F>,
     line: &[u8],
-    room: &mut String,
+    room: &mut Vec<u8>,
 ) -> Result<(), AllocError>
     requires { symbolizer.old.flags ≡ 23 }
     ensures contents { symbolizer.new.contents ≡ symbolizer.old.contents }
     ensures order { symbolizer.new.order ≡ symbolizer.old.order }
     ensures flags { symbolizer.new.flags ≡ symbolizer.old.flags }
     ensures views { symbolizer.new.views ≡ symbolizer.old.views }
-    ensures text { IsKnown symbolizer.new → OnOk result (string_bytes room.new
-        ≡ string_bytes room.old
-        ++ line_text (answers_in symbolizer.old) line.now) }
+    ensures text { IsKnown symbolizer.new → OnOk result (room.new.items ≡ room.old.items
+        ++ L.text (answers_in symbolizer.old) line.now) }
 {
     match parse_address(line) {
-        None => append_no_address(room),
+        None => L::append_other(alloc, line, room),
         Some(address) => {
             let found = symbolizer.find_held_shared_frames(alloc, address);
-            append_found(address, found, room)
+            L::append_found(address, found, room)
         }
     }
 }
 
-impl<'a, F: FileExt + Drop> FileLines<'a, F> {
+impl<'a, F: FileExt + Drop, L: LineForm> FileLines<'a, F, L> {
     /// Reads what was asked for and is missing, unless reading the file failed before; returns
     /// whether there is more now.
     fn read_missing(&mut self, alloc: Global) -> bool
@@ -101,10 +100,10 @@ impl<'a, F: FileExt + Drop> FileLines<'a, F> {
 }
 
 /// The numbers of the modules that hold the addresses of requests; some may be repeated.
-fn modules_of<F: Drop>(
+fn modules_of<F: Drop, S: LineStart>(
     alloc: Global,
     symbolizer: &FileSymbolizer<'_, F>,
-    requests: &[Request<AddressStart>],
+    requests: &[Request<S>],
 ) -> Result<Vec<usize>, AllocError> {
     let mut numbers = Vec::new(alloc);
     for request in requests {
@@ -118,17 +117,16 @@ fn modules_of<F: Drop>(
     Ok(numbers)
 }
 
-impl<'a, F: FileExt + Drop> Answers for FileLines<'a, F> {
-    type Start = AddressStart;
+impl<'a, F: FileExt + Drop, L: LineForm> Answers for FileLines<'a, F, L> {
+    type Start = L::Start;
 
-    ghost use Rattle.pdb_report_texts.specs.AddressText.{line_text};
     ghost use Rattle.pdb_report.specs.Answer.{answer_with};
     ghost use Rattle.pdb_databases.specs.FileAnswers.{IsKnown};
     ghost use Rattle.pdb_symbols_modules.specs.Streams.{streams};
 
     ghost known = { λ lines. IsKnown lines };
 
-    ghost text = { λ lines line. line_text
+    ghost text = { λ lines line. L.text
         (answer_with lines.order (streams lines.contents)) line };
 
     ghost subject = { λ lines. lines.contents };
@@ -137,7 +135,7 @@ impl<'a, F: FileExt + Drop> Answers for FileLines<'a, F> {
         parse_address(line).unwrap_or(0)
     }
 
-    fn prepare(&mut self, alloc: Global, requests: &[Request<AddressStart>]) {
+    fn prepare(&mut self, alloc: Global, requests: &[Request<L::Start>]) {
         if self.is_ready || !self.symbolizer.reads_exactly() {
             return;
         }
@@ -155,7 +153,7 @@ impl<'a, F: FileExt + Drop> Answers for FileLines<'a, F> {
     ) -> Result<(), AllocError> {
         for _ in 0..TRIES {
             self.room.clear();
-            match append_held_line(alloc, &mut self.symbolizer, line, &mut self.room) {
+            match append_held_line::<L, F>(alloc, &mut self.symbolizer, line, &mut self.room) {
                 Ok(()) => return append_text(alloc, &mut self.room, output),
                 Err(_) => {}
             }
@@ -172,17 +170,16 @@ impl<'a, F: FileExt + Drop> Answers for FileLines<'a, F> {
 /// # Errors
 /// `Read` and `Write` where that end failed in this call; `File` where the file couldn't be read;
 /// `InputTooLong` past 2^30 bytes of input; `OutOfMemory`.
-#[tactic(auto, using(pdb_report_texts::proofs::ShortLines::line_short))]
-fn answer_file_lines<F: FileExt + Drop, R: Read, W: Write>(
+fn answer_file_lines<L: LineForm, F: FileExt + Drop, R: Read, W: Write>(
     alloc: Global,
-    lines: &mut FileLines<'_, F>,
+    lines: &mut FileLines<'_, F, L>,
     reader: &mut Watched<R>,
     writer: &mut Watched<W>,
 ) -> Result<(), RunFault>
     ensures contents { lines.new.contents ≡ lines.old.contents }
     ensures grows { IsKnown lines.new → IsKnown lines.old }
-    ensures run { ReportsIfKnown (IsKnown lines.new) (frames_loaded (file_of lines.old)) (2 ^ 30)
-        R.remaining W.contents reader.old reader.new writer.old writer.new result }
+    ensures run { ReportsIfKnown (IsKnown lines.new) L.text (frames_loaded (file_of lines.old))
+        (2 ^ 30) R.remaining W.contents reader.old reader.new writer.old writer.new result }
 {
     match run(alloc, lines, reader, writer, INPUT_LIMIT) {
         Ok(()) => Ok(()),
@@ -216,7 +213,7 @@ pub struct FileRun<'a, F: Drop> {
 ///
 /// # Errors
 /// As [`answer_file_lines`].
-fn answer_file<'a, F: FileExt + Drop, R: Read, W: Write>(
+fn answer_file<'a, L: LineForm, F: FileExt + Drop, R: Read, W: Write>(
     alloc: Global,
     symbolizer: FileSymbolizer<'a, F>,
     reader: &mut Watched<R>,
@@ -226,14 +223,16 @@ fn answer_file<'a, F: FileExt + Drop, R: Read, W: Write>(
     requires { symbolizer.flags ≡ 23 }
     ensures grows { agrees result.source.views symbolizer.entry.contents ≡ true
         → IsKnown symbolizer.entry }
-    ensures report { ReportsFileFrames (frames_loaded (file_of symbolizer.entry)) R.remaining
-        W.contents reader.old reader.new writer.old writer.new result }
+    ensures report { ReportsFileFramesIn L.text (frames_loaded (file_of symbolizer.entry))
+        R.remaining W.contents reader.old reader.new writer.old writer.new result }
 {
+    let form: PhantomData<L> = PhantomData;
     let mut lines = FileLines {
         symbolizer,
-        room: String::new(alloc),
+        room: Vec::new(alloc),
         is_ready: false,
         failed: None,
+        form,
     };
     let outcome = answer_file_lines(alloc, &mut lines, reader, writer);
     let FileLines {
@@ -270,8 +269,28 @@ pub fn run_file_frames<'a, F: FileExt + Drop, R: Read, W: Write>(
     ensures exchanged { ExchangesFrames (frames_of source.entry) R.remaining W.contents
         reader.old writer.old writer.new result }
 {
+    run_file_frames_in::<TextLines, F, R, W>(alloc, source, reader, writer, at_end)
+}
+
+/// As [`run_file_frames`], in any form, such as [`JsonLines`](crate::JsonLines).
+///
+/// # Errors
+/// As those of [`run_file_frames`].
+pub fn run_file_frames_in<'a, L: LineForm, F: FileExt + Drop, R: Read, W: Write>(
+    alloc: Global,
+    source: FileOnDemand<'a, F>,
+    reader: &mut Watched<R>,
+    writer: &mut Watched<W>,
+    at_end: AtEnd,
+) -> FileRun<'a, F>
+    ensures report { ReportsFileFramesIn L.text (frames_of source.entry) R.remaining W.contents
+        reader.old reader.new writer.old writer.new result }
+    ensures isolated { IsIsolated source.entry.contents.numbers }
+    ensures exchanged { ExchangesFramesIn L.text (frames_of source.entry) R.remaining W.contents
+        reader.old writer.old writer.new result }
+{
     match FileSymbolizer::open(alloc, source) {
-        Ok(symbolizer) => answer_file(alloc, symbolizer, reader, writer, at_end),
+        Ok(symbolizer) => answer_file::<L, F, R, W>(alloc, symbolizer, reader, writer, at_end),
         Err(NotLoaded { fault, source }) => FileRun {
             outcome: Err(RunFault::from(fault)),
             source,

@@ -27,6 +27,7 @@
 //! | write the answers to lines of addresses | [`run_frames`] |
 //! | write them in a process that ends after that | [`run_frames_ending`] |
 //! | write them of a database of GNU ld before 2.44, too | [`run_frames_with_order`] |
+//! | write them as JSON Lines | [`run_frames_in`], [`run_file_frames_in`] with [`JsonLines`] |
 //! | write how many addresses of a range each function has | [`run_sizes`] |
 //! | write how many of them each source file has | [`run_sizes_by_file`] |
 //! | ask a file that is read on demand for frames | [`FileSymbolizer::open`], [`find_frames`] |
@@ -46,20 +47,24 @@ mod counted;
 mod file_report;
 mod file_sizes;
 mod finish;
+mod forms;
 pub mod laws;
 mod lines;
 mod report;
 mod sizes;
 
-pub use file_report::{FileRun, run_file_frames};
+pub use file_report::{FileRun, run_file_frames, run_file_frames_in};
 pub use file_sizes::{FileSizes, run_file_sizes, run_file_sizes_by_file};
 pub use finish::finish_run;
+pub use forms::{JsonLines, LineForm, TextLines};
 pub use pdb_addr2line::{Context, Error};
 pub use pdb_databases::{FileFramesFault, FileOnDemand, FileSymbolizer, NotLoaded, Symbolizer};
 pub use pdb_engine::{ErrorOutput, Watched, parse_address};
 pub use pdb_loading::{ContributionOrder, LoadFault, read_file};
 pub use pdb_report_texts::RunFault;
-pub use report::{AtEnd, answer_lines, run_frames, run_frames_ending, run_frames_with_order};
+pub use report::{
+    AtEnd, answer_lines, run_frames, run_frames_ending, run_frames_in, run_frames_with_order,
+};
 pub use sizes::{
     Tally, run_sizes, run_sizes_by_file, run_sizes_by_file_with_order, run_sizes_with_order,
 };

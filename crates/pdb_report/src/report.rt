@@ -1,9 +1,10 @@
 //! The report on an input.
 
 ghost use Rattle.std.specs.Prelude.{◌^◌};
-ghost use Rattle.pdb_report.specs.FrameReports.{ReportsFrames, frames_in, frames_loaded};
-ghost use Rattle.pdb_report.specs.FrameReports.{frames_with};
+ghost use Rattle.pdb_report.specs.FrameReports.{ReportsFrames, ReportsFramesIn, frames_in};
+ghost use Rattle.pdb_report.specs.FrameReports.{frames_loaded, frames_with};
 
+use crate::forms::{LineForm, TextLines};
 use crate::lines::LineAnswers;
 use pdb_databases::Symbolizer;
 use pdb_engine::{Watched, run};
@@ -11,6 +12,7 @@ use pdb_loading::ContributionOrder;
 use pdb_report_texts::RunFault;
 use std::alloc::Global;
 use std::io::{Read, Write};
+use std::marker::PhantomData;
 use std::mem::forget;
 
 /// The most bytes of input that a run reads: 2^30, some 100 million addresses. So a run ends on any
@@ -41,7 +43,6 @@ pub(crate) fn let_go<T: Drop>(value: T, at_end: AtEnd) {
 /// # Errors
 /// `Read` and `Write` where that end failed in this call; `InputTooLong` past `limit` bytes of
 /// input; `OutOfMemory`.
-#[tactic(auto, using(pdb_report_texts::proofs::ShortLines::line_short))]
 pub fn answer_lines<R: Read, W: Write>(
     alloc: Global,
     symbolizer: &Symbolizer,
@@ -53,11 +54,34 @@ pub fn answer_lines<R: Read, W: Write>(
     ensures { ReportsFrames (frames_loaded symbolizer.now) limit R.remaining W.contents
         reader.old reader.new writer.old writer.new result }
 {
+    answer_lines_in::<TextLines, R, W>(alloc, symbolizer, reader, writer, at_end, limit)
+}
+
+/// As [`answer_lines`], in any form.
+///
+/// # Errors
+/// As those of [`answer_lines`].
+fn answer_lines_in<L: LineForm, R: Read, W: Write>(
+    alloc: Global,
+    symbolizer: &Symbolizer,
+    reader: &mut Watched<R>,
+    writer: &mut Watched<W>,
+    at_end: AtEnd,
+    limit: u64,
+) -> Result<(), RunFault>
+    ensures { ReportsFramesIn L.text (frames_loaded symbolizer.now) limit R.remaining W.contents
+        reader.old reader.new writer.old writer.new result }
+{
     let Ok(context) = symbolizer.context(alloc) else {
         return Err(RunFault::OutOfMemory);
     };
-    let room = String::new(alloc);
-    let mut answers = LineAnswers { context, room };
+    let room = Vec::new(alloc);
+    let form: PhantomData<L> = PhantomData;
+    let mut answers = LineAnswers {
+        context,
+        room,
+        form,
+    };
     let outcome = run(alloc, &mut answers, reader, writer, limit);
     let_go(answers, at_end);
     match outcome {
@@ -114,7 +138,6 @@ pub fn run_frames_ending<R: Read, W: Write>(
 ///
 /// # Errors
 /// As those of [`run_frames`]. In any order no `Load` is for the order of section contributions.
-#[tactic(auto, using(crate::proofs::FrameSteps::of_loaded))]
 pub fn run_frames_with_order<R: Read, W: Write>(
     alloc: Global,
     bytes: Vec<u8>,
@@ -126,8 +149,34 @@ pub fn run_frames_with_order<R: Read, W: Write>(
     ensures { ReportsFrames (frames_with order bytes.items) (2 ^ 30) R.remaining W.contents
         reader.old reader.new writer.old writer.new result }
 {
+    run_frames_in::<TextLines, R, W>(alloc, bytes, order, reader, writer, at_end)
+}
+
+/// As [`run_frames_with_order`], in any form, such as [`JsonLines`](crate::JsonLines).
+///
+/// # Errors
+/// As those of [`run_frames_with_order`].
+#[tactic(auto, using(crate::proofs::FrameSteps::of_loaded))]
+pub fn run_frames_in<L: LineForm, R: Read, W: Write>(
+    alloc: Global,
+    bytes: Vec<u8>,
+    order: ContributionOrder,
+    reader: &mut Watched<R>,
+    writer: &mut Watched<W>,
+    at_end: AtEnd,
+) -> Result<(), RunFault>
+    ensures { ReportsFramesIn L.text (frames_with order bytes.items) (2 ^ 30) R.remaining W.contents
+        reader.old reader.new writer.old writer.new result }
+{
     match Symbolizer::open_with_order(alloc, bytes, order) {
-        Ok(symbolizer) => answer_lines(alloc, &symbolizer, reader, writer, at_end, INPUT_LIMIT),
+        Ok(symbolizer) => answer_lines_in::<L, R, W>(
+            alloc,
+            &symbolizer,
+            reader,
+            writer,
+            at_end,
+            INPUT_LIMIT,
+        ),
         Err(fault) => Err(RunFault::from(fault)),
     }
 }

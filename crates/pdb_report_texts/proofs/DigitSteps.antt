@@ -1,11 +1,7 @@
 -- The eight digits of an address, one by one.
-use Rattle.std.proofs.Common.{◌≡◌, ℕ, zero, suc, ◌+◌, ◌-◌, ◌*◌, ◌/◌, ◌%◌, ◌^◌, ◌<◌, ◌≤◌, Bool, true, false, ◌&&◌, T, eqb, List, [], ◌∷◌, ◌++◌, length, get_or, replicate, refl, sym, ap, subst, ◌∙◌, inl, inr, arith, eq-zero-or-pos, eqb→eq, append_assoc, append-nil, codes}
+use Rattle.std.proofs.Common.{◌≡◌, ℕ, zero, suc, ◌+◌, ◌-◌, ◌*◌, ◌/◌, ◌%◌, ◌^◌, ◌<◌, ◌≤◌, Bool, true, false, ◌&&◌, T, eqb, List, [], ◌∷◌, ◌++◌, length, get_or, replicate, refl, sym, ap, ◌∙◌, inl, inr, arith, eq-zero-or-pos, eqb→eq, append_assoc, append-nil}
 use Rattle.std.specs.Prelude.{if◌then◌else◌, ◌==◌}
 use Rattle.std.specs.Fmt.{digits, digits_onto, digit_glyph, padded_integral, char_count}
-use Rattle.std.specs.Str.{IsUtf8, IsAscii}
-use Rattle.std.specs.Prelude.{nat_lt}
-use Rattle.std.proofs.lemmas.Str.{IsUtf8-from_ascii, IsUtf8-append}
-use Rattle.std.proofs.lemmas.Str.Ascii.{IsAscii-cons}
 use Rattle.std.proofs.Math.Nat.{pow-suc}
 use Rattle.std.proofs.lemmas.List.{replicate_more}
 use Rattle.std.proofs.lemmas.Bool.{eq-eqb, ne_eqb}
@@ -110,45 +106,3 @@ digits_are a small =
     let six : a / 16 / 16 / 16 / 16 / 16 / 16 ≡ a / 0x100_0000 = omega arith in
     let seven : a / 16 / 16 / 16 / 16 / 16 / 16 / 16 % 16 ≡ a / 0x1000_0000 = omega arith in
     rw (last_eight a small, seven, six, five, four, three, two)
-
-module _ (n : ℕ) (small : n < 16) where
-  of_ten : (ten : Bool) → (if ten then 48 + n else 87 + n) < 128
-  of_ten true = omega arith
-  of_ten false = omega arith
-
-  -- a digit is ASCII
-  pub digit_ascii : digit_glyph false n < 128
-  digit_ascii = of_ten (nat_lt n 10)
-
-last_ascii : (k n : ℕ) (more : List ℕ) → IsAscii more → IsAscii (last_digits k n more)
-last_ascii zero n more h = h
-last_ascii (suc k) n more h = last_ascii k (n / 16) (digit_glyph false (n % 16) ∷ more)
-    (IsAscii-cons (digit_glyph false (n % 16)) more (digit_ascii (n % 16) (omega arith)) h)
-
--- the eight digits of an address are text
-pub digits_utf8 : (a : ℕ) → a < 2 ^ 32 → IsUtf8 (eight_digits a)
-digits_utf8 a small = subst IsUtf8 (sym (last_eight a small))
-    (IsUtf8-from_ascii (last_digits 8 a []) (last_ascii 8 a [] (λ i. omega arith)))
-
-zero_x : IsAscii (codes "0x")
-zero_x =
-    IsAscii-cons 48 (120 ∷ []) (omega arith) (IsAscii-cons 120 [] (omega arith) (λ i. omega arith))
-
-one_ascii : (b : ℕ) → b < 128 → IsUtf8 (b ∷ [])
-one_ascii b small = IsUtf8-from_ascii (b ∷ []) (IsAscii-cons b [] small (λ i. omega arith))
-
--- the line of an address is text
-pub line_utf8 : (a : ℕ) → a < 2 ^ 32 → IsUtf8 (codes "0x" ++ eight_digits a ++ 10 ∷ [])
-line_utf8 a small =
-    IsUtf8-append (codes "0x") (eight_digits a ++ 10 ∷ []) (IsUtf8-from_ascii (codes "0x") zero_x)
-    (IsUtf8-append (eight_digits a) (10 ∷ []) (digits_utf8 a small) (one_ascii 10 (omega arith)))
-
--- the start of a row, with what stands around it, is text
-pub start_utf8 : (a : ℕ) → a < 2 ^ 32 → IsUtf8 (codes " @0x" ++ eight_digits a ++ codes "+")
-start_utf8 a small =
-    let before : IsAscii (codes " @0x") =
-    IsAscii-cons 32 (64 ∷ codes "0x") (omega arith)
-    (IsAscii-cons 64 (codes "0x") (omega arith) zero_x) in
-    IsUtf8-append (codes " @0x") (eight_digits a ++ codes "+")
-    (IsUtf8-from_ascii (codes " @0x") before)
-    (IsUtf8-append (eight_digits a) (codes "+") (digits_utf8 a small) (one_ascii 43 (omega arith)))

@@ -1,4 +1,5 @@
 pub mod AddressText
 pub mod FaultText
+pub mod JsonLine
 pub mod RunFaults
 pub mod ToldFault

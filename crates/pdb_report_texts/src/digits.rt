@@ -2,9 +2,8 @@
 
 ghost use Rattle.std.specs.Prelude.{◌≡◌, ◌++◌, ◌∷◌, [], ◌<◌, OnOk, false, codes};
 ghost use Rattle.std.specs.Fmt.{digit_glyph};
-ghost use Rattle.std.specs.Str.{IsUtf8};
-ghost use Rattle.std.specs.String.{string_bytes};
 ghost use Rattle.pdb_report_texts.specs.AddressText.{eight_digits};
+ghost use Rattle.pdb_report_texts.specs.JsonLine.{address_string};
 
 use std::alloc::AllocError;
 
@@ -55,32 +54,44 @@ fn row_start(start: u32) -> [u8; 13]
     text
 }
 
-/// Appends bytes that are UTF-8.
-fn append_bytes(text: &mut String, bytes: &[u8]) -> Result<(), AllocError>
-    requires { IsUtf8 bytes.now }
-    ensures { OnOk result (string_bytes text.new ≡ string_bytes text.old ++ bytes.now) }
+/// Returns an address as a string of JSON.
+#[tactic(auto, unfolding(crate::specs::JsonLine::address_string))]
+fn quoted_address(address: u32) -> [u8; 12]
+    ensures { result ≡ address_string address }
 {
-    text.push_str(unsafe { std::str::from_utf8_unchecked(bytes) })
+    let mut text = *b"\"0x00000000\"";
+    text[3..11].copy_from_slice(&digits_of(address));
+    text
 }
 
 /// Appends the line of an address itself.
 ///
 /// # Errors
 /// `AllocError` when memory runs out.
-pub fn append_address_line(text: &mut String, address: u32) -> Result<(), AllocError>
-    ensures { OnOk result (string_bytes text.new ≡
-        string_bytes text.old ++ (codes "0x" ++ eight_digits address ++ 10 ∷ [])) }
+pub fn append_address_line(output: &mut Vec<u8>, address: u32) -> Result<(), AllocError>
+    ensures { OnOk result (output.new.items ≡
+        output.old.items ++ (codes "0x" ++ eight_digits address ++ 10 ∷ [])) }
 {
-    append_bytes(text, &address_line(address))
+    output.extend_from_slice(&address_line(address))
 }
 
 /// Appends where a row begins, with what stands before and after it.
 ///
 /// # Errors
 /// `AllocError` when memory runs out.
-pub fn append_row_start(text: &mut String, start: u32) -> Result<(), AllocError>
-    ensures { OnOk result (string_bytes text.new ≡
-        string_bytes text.old ++ (codes " @0x" ++ eight_digits start ++ codes "+")) }
+pub fn append_row_start(output: &mut Vec<u8>, start: u32) -> Result<(), AllocError>
+    ensures { OnOk result (output.new.items ≡
+        output.old.items ++ (codes " @0x" ++ eight_digits start ++ codes "+")) }
 {
-    append_bytes(text, &row_start(start))
+    output.extend_from_slice(&row_start(start))
+}
+
+/// Appends an address as a string of JSON.
+///
+/// # Errors
+/// `AllocError` when memory runs out.
+pub fn append_address_string(output: &mut Vec<u8>, address: u32) -> Result<(), AllocError>
+    ensures { OnOk result (output.new.items ≡ output.old.items ++ address_string address) }
+{
+    output.extend_from_slice(&quoted_address(address))
 }

@@ -6,9 +6,11 @@
 
 mod digits;
 mod fault;
+mod json;
 mod texts;
 mod told;
 
 pub use fault::RunFault;
+pub use json::{append_json_address, append_json_other, append_json_unreadable};
 pub use texts::{append_address, append_unreadable};
 pub use told::tell;

@@ -1,6 +1,6 @@
 //! The text of an answer.
 
-ghost use Rattle.std.specs.Prelude.{◌≡◌, ◌++◌, ◌∷◌, [], OnOk, Ok, Err, string_bytes, option_map};
+ghost use Rattle.std.specs.Prelude.{◌≡◌, ◌++◌, ◌∷◌, [], OnOk, Ok, Err, option_map};
 ghost use Rattle.std.specs.Prelude.{codes};
 ghost use Rattle.std.specs.List.{flat_map};
 ghost use Rattle.pdb_resolving.specs.Fault.{Fault};
@@ -16,42 +16,49 @@ use std::alloc::AllocError;
 use std::borrow::CowStr;
 use std::sync::ArcStr;
 
-/// Appends the line of a frame.
-fn append_frame(text: &mut String, frame: &SharedFrame<'_>) -> Result<(), AllocError>
-    ensures { OnOk result (string_bytes text.new ≡ string_bytes text.old ++ frame_text frame.now) }
+/// Appends a text.
+pub(crate) fn append(output: &mut Vec<u8>, text: &str) -> Result<(), AllocError>
+    ensures { OnOk result (output.new.items ≡ output.old.items ++ text.now) }
 {
-    text.push_str("  ")?;
-    text.push_str(text_or_unknown(&frame.function))?;
-    text.push_str(" at ")?;
-    text.push_str(file_or_unknown(&frame.file))?;
-    text.push_str(":")?;
-    append_number(text, frame.line)?;
-    append_row(text, frame.row)?;
-    text.push_str("\n")
+    output.extend_from_slice(text.as_bytes())
+}
+
+/// Appends the line of a frame.
+fn append_frame(output: &mut Vec<u8>, frame: &SharedFrame<'_>) -> Result<(), AllocError>
+    ensures { OnOk result (output.new.items ≡ output.old.items ++ frame_text frame.now) }
+{
+    append(output, "  ")?;
+    append(output, text_or_unknown(&frame.function))?;
+    append(output, " at ")?;
+    append(output, file_or_unknown(&frame.file))?;
+    append(output, ":")?;
+    append_number(output, frame.line)?;
+    append_row(output, frame.row)?;
+    append(output, "\n")
 }
 
 /// Appends a number, or two question marks.
-fn append_number(text: &mut String, number: Option<u32>) -> Result<(), AllocError>
-    ensures { OnOk result (string_bytes text.new ≡ string_bytes text.old ++ number_text number) }
+fn append_number(output: &mut Vec<u8>, number: Option<u32>) -> Result<(), AllocError>
+    ensures { OnOk result (output.new.items ≡ output.old.items ++ number_text number) }
 {
     match number {
-        None => text.push_str("??"),
+        None => append(output, "??"),
         Some(number) => {
             let mut buffer = Buffer::new();
-            text.push_str(buffer.format(number))
+            append(output, buffer.format(number))
         }
     }
 }
 
 /// Appends a row: where it begins, and its length in bytes; or that there is none.
-fn append_row(text: &mut String, row: Option<FrameRow>) -> Result<(), AllocError>
-    ensures { OnOk result (string_bytes text.new ≡ string_bytes text.old ++ row_text row) }
+fn append_row(output: &mut Vec<u8>, row: Option<FrameRow>) -> Result<(), AllocError>
+    ensures { OnOk result (output.new.items ≡ output.old.items ++ row_text row) }
 {
     match row {
-        None => text.push_str(" @??"),
+        None => append(output, " @??"),
         Some(row) => {
-            append_row_start(text, row.start_rva)?;
-            append_number(text, row.length)
+            append_row_start(output, row.start_rva)?;
+            append_number(output, row.length)
         }
     }
 }
@@ -80,26 +87,26 @@ fn file_or_unknown<'f>(file: &'f Option<CowStr<'_>>) -> &'f str
 /// Appends the lines of an answer.
 #[tactic(auto, unfolding(crate::specs::AddressText::answer_text))]
 fn append_answer(
-    text: &mut String,
+    output: &mut Vec<u8>,
     answer: &Option<SharedFunctionFrames<'_>>,
 ) -> Result<(), AllocError>
-    ensures { OnOk result (string_bytes text.new ≡
-        string_bytes text.old ++ answer_text (Ok answer.now)) }
+    ensures { OnOk result (output.new.items ≡
+        output.old.items ++ answer_text (Ok answer.now)) }
 {
     match answer {
-        None => text.push_str("  ??\n"),
-        Some(found) => append_frames(text, found.frames.as_slice()),
+        None => append(output, "  ??\n"),
+        Some(found) => append_frames(output, found.frames.as_slice()),
     }
 }
 
 /// Appends the lines of frames.
-#[tactic(auto, using(crate::proofs::FrameSteps::lines_more, crate::proofs::FrameSteps::lines_all))]
-fn append_frames(text: &mut String, frames: &[SharedFrame<'_>]) -> Result<(), AllocError>
-    ensures { OnOk result (string_bytes text.new ≡
-        string_bytes text.old ++ flat_map frame_text frames.now) }
+#[tactic(auto, using(crate::proofs::FrameSteps::text_more, crate::proofs::FrameSteps::text_all))]
+fn append_frames(output: &mut Vec<u8>, frames: &[SharedFrame<'_>]) -> Result<(), AllocError>
+    ensures { OnOk result (output.new.items ≡
+        output.old.items ++ flat_map frame_text frames.now) }
 {
     for frame in frames {
-        append_frame(text, frame)?;
+        append_frame(output, frame)?;
     }
     Ok(())
 }
@@ -109,15 +116,15 @@ fn append_frames(text: &mut String, frames: &[SharedFrame<'_>]) -> Result<(), Al
 /// # Errors
 /// `AllocError` when memory runs out.
 pub fn append_address(
-    text: &mut String,
+    output: &mut Vec<u8>,
     address: u32,
     answer: &Option<SharedFunctionFrames<'_>>,
 ) -> Result<(), AllocError>
-    ensures { OnOk result (string_bytes text.new ≡ string_bytes text.old
+    ensures { OnOk result (output.new.items ≡ output.old.items
         ++ (codes "0x" ++ eight_digits address ++ 10 ∷ answer_text (Ok answer.now))) }
 {
-    append_address_line(text, address)?;
-    append_answer(text, answer)?;
+    append_address_line(output, address)?;
+    append_answer(output, answer)?;
     Ok(())
 }
 
@@ -126,11 +133,11 @@ pub fn append_address(
 /// # Errors
 /// `AllocError` when memory runs out.
 #[tactic(auto, unfolding(crate::specs::AddressText::answer_text))]
-pub fn append_unreadable(text: &mut String, address: u32) -> Result<(), AllocError>
-    ensures { OnOk result ((e : Fault) → string_bytes text.new ≡ string_bytes text.old
+pub fn append_unreadable(output: &mut Vec<u8>, address: u32) -> Result<(), AllocError>
+    ensures { OnOk result ((e : Fault) → output.new.items ≡ output.old.items
         ++ (codes "0x" ++ eight_digits address ++ 10 ∷ answer_text (Err e))) }
 {
-    append_address_line(text, address)?;
-    text.push_str("  unreadable\n")?;
+    append_address_line(output, address)?;
+    append(output, "  unreadable\n")?;
     Ok(())
 }

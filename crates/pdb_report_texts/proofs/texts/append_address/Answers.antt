@@ -1,4 +1,4 @@
-use Rattle.std.proofs.Common.{◌++◌, codes, Ok, ap, ◌∙◌, string_bytes}
+use Rattle.std.proofs.Common.{◌++◌, codes, Ok, ap, ◌∙◌}
 use Rattle.pdb_report_texts.specs.AddressText.{answer_text, eight_digits}
 use Rattle.pdb_report_texts.proofs.FrameSteps.{address_more}
 use Rattle.pdb_report_texts.proofs.texts.append_address.Goals as goal
@@ -8,5 +8,5 @@ returns c =
     let more = answer_text (Ok c.args.answer.now) in
     c.in_ok-append_answer.ensures
     ∙ ap (λ bs. bs ++ more) c.in_ok-append_address_line.ensures
-    ∙ address_more (string_bytes c.args.text.now)
+    ∙ address_more (c.args.output.now.items)
     (codes "0x" ++ eight_digits c.args.address) more

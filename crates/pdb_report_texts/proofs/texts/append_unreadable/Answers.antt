@@ -1,4 +1,4 @@
-use Rattle.std.proofs.Common.{◌++◌, codes, ap, ◌∙◌, string_bytes}
+use Rattle.std.proofs.Common.{◌++◌, codes, ap, ◌∙◌}
 use Rattle.pdb_report_texts.specs.AddressText.{answer_text, eight_digits}
 use Rattle.pdb_report_texts.proofs.FrameSteps.{address_more}
 use Rattle.pdb_report_texts.proofs.texts.append_unreadable.Goals as goal
@@ -7,7 +7,7 @@ pub returns : goal.returns
 unfolding answer_text
 returns c e =
     let more = codes "  unreadable\n" in
-    c.in_ok-push_str.ensures.bytes
+    c.in_ok-append.ensures
     ∙ ap (λ bs. bs ++ more) c.in_ok-append_address_line.ensures
-    ∙ address_more (string_bytes c.args.text.now)
+    ∙ address_more (c.args.output.now.items)
     (codes "0x" ++ eight_digits c.args.address) more
