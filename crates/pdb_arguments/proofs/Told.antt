@@ -28,13 +28,13 @@ task_told : (entered : Option Entered) (task : Task) (fault : WordsFault) → Is
 task_told None task fault h told = absurd h
 task_told (Some e) task (faults.Help text) h told = absurd told
 task_told (Some e) task faults.OutOfMemory h told = refl
-task_told (Some e) (Frames file demangle any_order) faults.NotAnAddress h told =
+task_told (Some e) (Frames file demangle any_order json) faults.NotAnAddress h told =
     absurd (other_names (sym h.0 ∙ told.0))
 task_told (Some e) (Sizes file start end by_file demangle any_order) faults.NotAnAddress h told = elim told.1 [
   | inl none ↦ cc
   | inr none ↦ cc
 ]
-task_told (Some e) (Frames file demangle any_order) (faults.Words text) h told = elim told [
+task_told (Some e) (Frames file demangle any_order json) (faults.Words text) h told = elim told [
   | inl none ↦ cc
   | inr neither ↦ absurd (neither.0 h.0)
 ]

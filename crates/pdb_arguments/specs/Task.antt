@@ -21,10 +21,11 @@ needed name = record (new_rule name) { required = true }
 abbrev pub flagged : List ℕ → Rule
 flagged name = record (new_rule name) { long = Some name; action = Some SetTrue }
 
--- `frames FILE`, with the flags `--demangle` and `--any-order`
+-- `frames FILE`, with the flags `--demangle`, `--any-order` and `--json`
 abbrev pub frames_app : App
-frames_app = with_rule (with_rule (with_rule (new_app (codes "frames")) (needed (codes "FILE")))
-    (flagged (codes "demangle"))) (flagged (codes "any-order"))
+frames_app = with_rule (with_rule (with_rule (with_rule (new_app (codes "frames"))
+    (needed (codes "FILE"))) (flagged (codes "demangle"))) (flagged (codes "any-order")))
+    (flagged (codes "json"))
 
 -- `sizes FILE START END`
 abbrev pub range_app : App
@@ -70,10 +71,11 @@ flag_at name rows =
 -- the task has the subcommand's name, its FILE, the addresses at START and END, and the flags
 abbrev pub IsTask : Task → Option Entered → Type 0
 IsTask task None = ⊥
-IsTask (Frames file demangle any_order) (Some entered) = (entered.0 ≡ codes "frames")
+IsTask (Frames file demangle any_order json) (Some entered) = (entered.0 ≡ codes "frames")
     × (first_of (codes "FILE") entered.1 ≡ Some (string_bytes file))
     × (demangle ≡ flag_at (codes "demangle") entered.1)
     × (any_order ≡ flag_at (codes "any-order") entered.1)
+    × (json ≡ flag_at (codes "json") entered.1)
 IsTask (Sizes file start end by_file demangle any_order) (Some entered) =
     (entered.0 ≡ codes "sizes") × (first_of (codes "FILE") entered.1 ≡ Some (string_bytes file))
     × (address_at (codes "START") entered.1 ≡ Some start)

@@ -33,9 +33,14 @@ for each function there, NAME at FILE:LINE @START+LENGTH, from the innermost inl
 the line's code starts at START and has LENGTH bytes (in decimal). ?? stands for what isn't known,
 unreadable for what is damaged, and not an address for any other line.
 
+With --json each line gets one line of JSON in place of these: an object with address and frames,
+each with function, file, line and row (start and length), null where one isn't known. No frames
+stand for ??. In place of frames there is error: unreadable, or not an address, with the line.
+
 Examples:
   echo 1018 | pdb_symbolizer frames program.pdb
-  echo 1018 | pdb_symbolizer frames --demangle program.pdb";
+  echo 1018 | pdb_symbolizer frames --demangle program.pdb
+  echo 1018 | pdb_symbolizer frames --json program.pdb";
 
 const SIZES_ABOUT: &str = "Counts the addresses of a range that each function or source file owns";
 
@@ -63,6 +68,8 @@ const DEMANGLE_HELP: &str =
 
 const ANY_ORDER_HELP: &str =
     "Takes section contributions in any order, as GNU ld before 2.44 writes them";
+
+const JSON_HELP: &str = "Writes one line of JSON for each line of standard input";
 
 const START_HELP: &str = "The range's first address, in hexadecimal, such as 1000 or 0x1000";
 
@@ -126,7 +133,7 @@ fn described<'a>(alloc: Global, name: &'a str, about: &'a str, end: &'a str) -> 
     Command::new(alloc, name).about(about).after_help(end)
 }
 
-/// The command `frames FILE`, with the flags `--demangle` and `--any-order`.
+/// The command `frames FILE`, with the flags `--demangle`, `--any-order` and `--json`.
 fn frames_command<'a>(alloc: Global) -> Result<Command<'a>, AllocError>
     ensures app { IfOk result (λ c. app_of c ≡ frames_app) }
     ensures local { IfOk result (λ c. (fields_of c).has_globals ≡ false) }
@@ -134,7 +141,8 @@ fn frames_command<'a>(alloc: Global) -> Result<Command<'a>, AllocError>
     let command = described(alloc, "frames", FRAMES_ABOUT, FRAMES_EXAMPLE);
     let with_file = with_needed(alloc, command, "FILE", FILE_HELP)?;
     let with_demangle = with_flag(alloc, with_file, "demangle", DEMANGLE_HELP)?;
-    with_flag(alloc, with_demangle, "any-order", ANY_ORDER_HELP)
+    let with_any_order = with_flag(alloc, with_demangle, "any-order", ANY_ORDER_HELP)?;
+    with_flag(alloc, with_any_order, "json", JSON_HELP)
 }
 
 /// Adds the arguments `START END`.

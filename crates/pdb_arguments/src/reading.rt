@@ -75,10 +75,12 @@ fn task_in(alloc: Global, name: &str, matches: &ArgMatches<'_>) -> Result<Task, 
     let demangle = is_set(matches, "demangle");
     let any_order = is_set(matches, "any-order");
     if is_word(name, "frames") {
+        let json = is_set(matches, "json");
         return Ok(Task::Frames {
             file,
             demangle,
             any_order,
+            json,
         });
     }
     if !is_word(name, "sizes") {

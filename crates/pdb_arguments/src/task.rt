@@ -14,6 +14,8 @@ pub enum Task {
         demangle: bool,
         /// Whether what modules hold may stand in any order in the file.
         any_order: bool,
+        /// Whether lines of JSON are written in place of text.
+        json: bool,
     },
     /// Counts the addresses that each function or source file owns in a range.
     Sizes {

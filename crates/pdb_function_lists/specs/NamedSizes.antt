@@ -17,7 +17,7 @@ use Rattle.pdb_listings.specs.Sizes.{path_name}
 abbrev pub function_named : (List ℕ → Bool) → Function → Bool
 function_named test f = test (text_or f.name)
 
--- and of the path of a source file, or of the folder in it
+-- and of the path of a source file, or of its folder
 abbrev pub file_named : Bool → (List ℕ → Bool) → FileAnswer → Bool
 file_named by_folder test f = test (path_name by_folder f)
 

@@ -22,7 +22,7 @@ use Rattle.pdb_report_texts.proofs.InputFaultSteps.{on_read, on_write, on_too_lo
 use Rattle.pdb_symbols_modules.specs.Streams.{streams}
 use Rattle.pdb_report.proofs.FileFaults.{if_refused, nothing_out, of_file_frames}
 
-module _ {R W : Type 0} (remaining : R → Option (List ℕ)) (contents : W → Option (List ℕ)) (limit : ℕ) (text : LineText) where
+module _ {R W : Type 0} (text : LineText) (remaining : R → Option (List ℕ)) (contents : W → Option (List ℕ)) (limit : ℕ) where
   -- nothing was read and nothing written, where a file is refused
   pub file_refused : {T : Type 0} (known : Type 0) (f : FramesOf) (reader : Watched R) (writer : Watched W) (e : FileFault) → (known → OnLoadFault e (λ cause. Refuses cause f.fault))
       → ReportsIfKnown {T = T} known text f limit remaining contents reader reader writer writer (Err (run_fault_of_file e))

@@ -118,8 +118,7 @@ ReportsFrames f limit remaining contents reader reader' writer writer' result =
 -- The same over a file that is read on demand. What is said of the file's bytes holds where they
 -- agree with what was read, which `known` says.
 pub record ReportsIfKnown {R W T : Type 0} (known : Type 0) (text : LineText) (f : FramesOf)
-    (limit : ℕ)
-    (remaining : R → Option (List ℕ)) (contents : W → Option (List ℕ))
+    (limit : ℕ) (remaining : R → Option (List ℕ)) (contents : W → Option (List ℕ))
     (reader reader' : Watched R) (writer writer' : Watched W) (result : Result T RunFault)
     : Type 0 where
   -- `Load` comes with nothing read and nothing written, and is the file's loading fault
@@ -156,12 +155,12 @@ pub record ReportsIfKnown {R W T : Type 0} (known : Type 0) (text : LineText) (f
   pub part : known → OnErr result (IfSome (remaining (inner_of reader)) (λ input.
       WritesFront contents writer writer' (report (text f.answer) input)))
 
--- The report on an input of up to 2^30 bytes by a file that is read on demand, and what is left of
--- it: it is taken to have the same bytes, and what is said of these holds if they agree with what
--- was read.
+-- The report on an input of up to 2^30 bytes by a file that is read on demand, with what is written
+-- for a line, and what is left of the file: it is taken to have the same bytes, and what is said of
+-- these holds if they agree with what was read.
 pub record ReportsFileFramesIn {F R W : Type 0} (text : LineText) (f : FramesOf)
-    (remaining : R → Option (List ℕ)) (written : W → Option (List ℕ)) (reader reader' : Watched R)
-    (writer writer' : Watched W) (result : FileRun F) : Type 0 where
+    (remaining : R → Option (List ℕ)) (written : W → Option (List ℕ))
+    (reader reader' : Watched R) (writer writer' : Watched W) (result : FileRun F) : Type 0 where
   pub contents : result.source.contents.numbers ≡ f.bytes
   pub run : ReportsIfKnown (agrees result.source.views f.bytes ≡ true) text f (2 ^ 30) remaining
       written reader reader' writer writer' result.outcome

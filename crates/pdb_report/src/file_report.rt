@@ -1,6 +1,6 @@
 //! The report on an input, by a file that is read on demand.
 
-ghost use Rattle.std.specs.Prelude.{◌≡◌, ◌++◌, ◌^◌, OnOk, length, true};
+ghost use Rattle.std.specs.Prelude.{◌≡◌, ◌++◌, ◌^◌, OnOk, true};
 ghost use Rattle.pdb_databases.specs.FileAnswers.{IsKnown, file_of};
 ghost use Rattle.pdb_file_views.specs.Views.{agrees, Grows};
 ghost use Rattle.pdb_report.specs.FrameReports.{ExchangesFrames, ExchangesFramesIn};

@@ -1,2 +1,3 @@
+pub mod FrameReports
 pub mod LineSteps
 pub mod NothingOut

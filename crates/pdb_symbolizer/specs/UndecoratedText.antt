@@ -5,12 +5,12 @@ use Rattle.pdb_engine.specs.InputLines.{Begins}
 use Rattle.pdb_symbolizer.specs.UndecoratedLines.{IsUnbroken, Undecorates}
 use Rattle.pdb_symbolizer.specs.declared.undecorated.writer.UndecoratedWriter.{UndecoratedWriter}
 
--- The lines that newlines end of what was pending and of the bytes were written with the texts of
--- their names, and what comes after them is pending.
+-- The lines that end in what was pending and the bytes were written with the texts of their names,
+-- and what comes after them is pending.
 pub record WritesEnded {W : Type 0} (contents : W → Option (List ℕ)) (old new : UndecoratedWriter W)
     (bytes : List ℕ) : Type 0 where
   pub same_kind : new.kind ≡ old.kind
-  pub pending : IsUnbroken new.pending.items
+  pub pending : IsUnbroken old.kind new.pending.items
   pub named : List ℕ
   pub is_named : Undecorates old.kind (old.pending.items ++ bytes) new.pending.items named
   pub out : Appends (contents old.writer) (contents new.writer) named

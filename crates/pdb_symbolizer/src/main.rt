@@ -1,6 +1,7 @@
 //! Answers addresses of a program by its program database: `pdb_symbolizer frames FILE`; and counts
 //! how many addresses of a range each function has, or with `--by-file` each source file:
-//! `pdb_symbolizer sizes FILE START END`. With `--demangle` names of functions are undecorated.
+//! `pdb_symbolizer sizes FILE START END`. With `--demangle` names of functions are undecorated. With
+//! `--json` `frames` writes lines of JSON.
 //!
 //! How a file is read may change. What is written, with which status, may not: scripts read it, and
 //! contracts of `pdb_report` say it.
@@ -23,7 +24,7 @@ pub use pdb_report::{
     parse_address, read_file, run_frames, run_frames_with_order, run_sizes, run_sizes_by_file,
     run_sizes_by_file_with_order, run_sizes_with_order,
 };
-use pdb_report::{FileOnDemand, FileRun};
+use pdb_report::{FileOnDemand, FileRun, JsonLines, run_frames_in};
 use std::alloc::Global;
 use std::io::{self, ErrorKind, Read, Write};
 use std::mem::forget;
@@ -90,6 +91,11 @@ fn order_of(task: &Task) -> ContributionOrder
 /// functions.
 fn undecorated_report(task: &Task) -> Option<ReportKind> {
     match task {
+        Task::Frames {
+            demangle: true,
+            json: true,
+            ..
+        } => Some(ReportKind::Json),
         Task::Frames { demangle: true, .. } => Some(ReportKind::Frames),
         Task::Sizes {
             by_file: false,
@@ -183,6 +189,16 @@ fn run_task<R: Read, W: Write>(
 {
     let order = order_of(task);
     match task {
+        Task::Frames { json: true, .. } => {
+            run_frames_in::<JsonLines, R, W>(
+                alloc,
+                bytes,
+                order,
+                reader,
+                writer,
+                AtEnd::LeaveToProcess,
+            )
+        }
         Task::Frames { .. } => {
             run_frames_with_order(alloc, bytes, order, reader, writer, AtEnd::LeaveToProcess)
         }

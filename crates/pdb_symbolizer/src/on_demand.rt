@@ -6,8 +6,8 @@ ghost use Rattle.pdb_symbolizer.specs.Tasks.{order_of};
 
 use pdb_arguments::Task;
 use pdb_report::{
-    AtEnd, FileOnDemand, FileRun, FileSizes, RunFault, Watched, run_file_frames, run_file_sizes,
-    run_file_sizes_by_file,
+    AtEnd, FileOnDemand, FileRun, FileSizes, JsonLines, RunFault, Watched, run_file_frames,
+    run_file_frames_in, run_file_sizes, run_file_sizes_by_file,
 };
 use std::alloc::Global;
 use std::fs::OpenFile;
@@ -38,6 +38,13 @@ pub fn run_task_on_demand<'a, F: FileExt + Drop, R: Read, W: Write>(
         writer.old writer.new result }
 {
     match task {
+        Task::Frames { json: true, .. } => run_file_frames_in::<JsonLines, F, R, W>(
+            alloc,
+            source,
+            reader,
+            writer,
+            AtEnd::LeaveToProcess,
+        ),
         Task::Frames { .. } => {
             run_file_frames(alloc, source, reader, writer, AtEnd::LeaveToProcess)
         }

@@ -19,6 +19,8 @@ enum Wanted {
     SizesDemangled(&'static str, u32, u32),
     /// The task `frames` over a file, with `--any-order`.
     FramesAnyOrder(&'static str),
+    /// The task `frames` over a file, with `--json`.
+    FramesJson(&'static str),
     /// The task `sizes` over a range of a file, with `--any-order`.
     SizesAnyOrder(&'static str, u32, u32),
     /// The fault with that name.
@@ -45,6 +47,7 @@ impl Wanted {
                         file,
                         demangle: false,
                         any_order: false,
+                        json: false,
                     },
                 ),
             ) => { file.as_str() == wanted }
@@ -55,6 +58,7 @@ impl Wanted {
                         file,
                         demangle: true,
                         any_order: false,
+                        json: false,
                     },
                 ),
             ) => { file.as_str() == wanted }
@@ -65,6 +69,18 @@ impl Wanted {
                         file,
                         demangle: false,
                         any_order: true,
+                        json: false,
+                    },
+                ),
+            ) => { file.as_str() == wanted }
+            (
+                Wanted::FramesJson(wanted),
+                Ok(
+                    Task::Frames {
+                        file,
+                        demangle: false,
+                        any_order: false,
+                        json: true,
                     },
                 ),
             ) => { file.as_str() == wanted }
@@ -147,6 +163,7 @@ const FRAMES_HELP: &[&str] = &[
     "<FILE>  The program database",
     "--demangle   Writes decorated names",
     "--any-order  Takes section contributions",
+    "--json       Writes one line of JSON",
     "Standard input has one address a line",
     "echo 1018 | pdb_symbolizer frames program.pdb",
 ];
@@ -175,6 +192,7 @@ const ROWS: &[(&str, Wanted)] = &[
     ("frames F", Wanted::Frames("F")),
     ("frames F --demangle", Wanted::FramesDemangled("F")),
     ("frames --any-order F", Wanted::FramesAnyOrder("F")),
+    ("frames F --json", Wanted::FramesJson("F")),
     (
         "sizes F 10 20 --any-order",
         Wanted::SizesAnyOrder("F", 16, 32),

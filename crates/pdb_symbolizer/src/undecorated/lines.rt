@@ -1,13 +1,15 @@
 //! The lines of a report, and the names in them.
 
 ghost use Rattle.std.specs.Prelude.{◌≡◌, ◌++◌, ◌∷◌, [], ◌≤◌, ℕ, List, IfOk, MatchOption, OnOk};
-ghost use Rattle.std.specs.Prelude.{length};
+ghost use Rattle.std.specs.Prelude.{false, length};
 ghost use Rattle.std.specs.List.{prefix_len};
-ghost use Rattle.pdb_symbolizer.specs.UndecoratedLines.{IsNamed, IsNameText, IsUnbroken, SplitsLine};
-ghost use Rattle.pdb_symbolizer.specs.UndecoratedLines.{Undecorates, after_blank as after_blank_of};
+ghost use Rattle.pdb_symbolizer.specs.UndecoratedLines.{IsNamed, IsNameText, IsTextIn, IsUnbroken};
+ghost use Rattle.pdb_symbolizer.specs.UndecoratedLines.{SplitsLine, Undecorates};
+ghost use Rattle.pdb_symbolizer.specs.UndecoratedLines.{after_blank as after_blank_of, is_in_name};
 ghost use Rattle.pdb_symbolizer.specs.UndecoratedLines.{is_decorated as is_decorated_name, is_in_line};
 ghost use Rattle.pdb_symbolizer.specs.UndecoratedLines.{is_in_word, name_start as name_start_of};
 
+use json_strings::append_bytes;
 use msvc_demangler::{Demangled, SHORT_TEXT, demangle};
 use std::alloc::{AllocError, Global};
 
@@ -16,6 +18,9 @@ use std::alloc::{AllocError, Global};
 pub enum ReportKind {
     /// Frames of addresses: `  NAME at FILE:LINE @START+LENGTH`.
     Frames,
+    /// Frames of addresses in JSON. A line ends at an opening brace, too, so that it has at most one
+    /// frame: `"function":"NAME","file":..`.
+    Json,
     /// Addresses of a range by function: `START COUNT NAME`.
     Sizes,
 }
@@ -38,6 +43,27 @@ fn after_blank(line: &[u8], start: usize) -> usize
     if blank < line.len() { blank + 1 } else { blank }
 }
 
+/// How many bytes a name has, by what begins with it.
+fn name_length(kind: ReportKind, text: &[u8]) -> usize
+    ensures is { result ≡ prefix_len (is_in_name kind) text.now }
+    ensures within { result ≤ length text.now }
+{
+    match kind {
+        ReportKind::Json => string_length(text),
+        _ => word_length(text),
+    }
+}
+
+/// How many bytes stand before the first blank or quote.
+fn string_length(text: &[u8]) -> usize
+    ensures is { result ≡ prefix_len (is_in_name ReportKind.Json) text.now }
+    ensures within { result ≤ length text.now }
+{
+    text.iter()
+        .take_while(|byte| **byte != b' ' && **byte != b'"')
+        .count()
+}
+
 /// Where a line's name begins; at its end if it has none.
 #[tactic(auto, unfolding(crate::specs::UndecoratedLines::name_start))]
 fn name_start(kind: ReportKind, line: &[u8]) -> usize
@@ -47,7 +73,21 @@ fn name_start(kind: ReportKind, line: &[u8]) -> usize
     match (kind, line) {
         (ReportKind::Sizes, _) => after_blank(line, after_blank(line, 0)),
         (ReportKind::Frames, [b' ', b' ', ..]) => 2,
+        (ReportKind::Json, _) => string_start(line),
         (ReportKind::Frames, _) => line.len(),
+    }
+}
+
+/// Where the name of a frame begins in JSON; at the line's end if it has none.
+#[tactic(auto, unfolding(crate::specs::UndecoratedLines::name_start))]
+fn string_start(line: &[u8]) -> usize
+    ensures is { result ≡ name_start_of ReportKind.Json line.now }
+    ensures within { result ≤ length line.now }
+{
+    if line.starts_with(b"\"function\":\"") {
+        12
+    } else {
+        line.len()
     }
 }
 
@@ -75,49 +115,92 @@ fn append_name(alloc: Global, name: &[u8], output: &mut Vec<u8>) -> Result<(), A
     }
 }
 
-/// Appends a line with the text of its name, and a newline.
+/// Appends the text of a name in a string of JSON: the name as it stands, if something in it is
+/// escaped.
+fn append_escaped_name(alloc: Global, name: &[u8], output: &mut Vec<u8>) -> Result<(), AllocError>
+    ensures { OnOk result ((text : List ℕ) × IsTextIn ReportKind.Json name.now text
+        × (output.new.items ≡ output.old.items ++ text)) }
+{
+    if !is_decorated(name) || name.contains(&b'\\') {
+        return output.extend_from_slice(name);
+    }
+    let mut plain = Vec::new(alloc);
+    append_name(alloc, name, &mut plain)?;
+    append_bytes(output, plain.as_slice())
+}
+
+/// Appends the text of a name in a report of a kind.
+fn append_name_in(
+    alloc: Global,
+    kind: ReportKind,
+    name: &[u8],
+    output: &mut Vec<u8>,
+) -> Result<(), AllocError>
+    ensures { OnOk result ((text : List ℕ) × IsTextIn kind name.now text
+        × (output.new.items ≡ output.old.items ++ text)) }
+{
+    match kind {
+        ReportKind::Json => append_escaped_name(alloc, name, output),
+        _ => append_name(alloc, name, output),
+    }
+}
+
+/// Appends a line with the text of its name, and the byte that ends it.
 fn append_line(
     alloc: Global,
     kind: ReportKind,
     line: &[u8],
+    end: u8,
     output: &mut Vec<u8>,
 ) -> Result<(), AllocError>
     ensures { OnOk result ((text : List ℕ) × IsNamed kind line.now text
-        × (output.new.items ≡ output.old.items ++ (text ++ 10 ∷ []))) }
+        × (output.new.items ≡ output.old.items ++ (text ++ end ∷ []))) }
 {
     let start = name_start(kind, line);
-    let end = start + word_length(&line[start..]);
+    let name_end = start + name_length(kind, &line[start..]);
     output.extend_from_slice(&line[..start])?;
-    append_name(alloc, &line[start..end], output)?;
-    output.extend_from_slice(&line[end..])?;
-    output.push(b'\n')?;
+    append_name_in(alloc, kind, &line[start..name_end], output)?;
+    output.extend_from_slice(&line[name_end..])?;
+    output.push(end)?;
     Ok(())
 }
 
-/// How many bytes stand before the first newline.
-fn line_length(text: &[u8]) -> usize
-    ensures is { result ≡ prefix_len is_in_line text.now }
-    ensures within { result ≤ length text.now }
+/// Whether a byte is part of a line.
+fn is_line_byte(kind: ReportKind, byte: u8) -> bool
+    ensures { result ≡ is_in_line kind byte }
 {
-    text.iter().take_while(|byte| **byte != b'\n').count()
+    match kind {
+        ReportKind::Json => byte != b'\n' && byte != b'{',
+        _ => byte != b'\n',
+    }
 }
 
-/// The first line of a text, if a newline ends it, and what comes after that.
-#[tactic(auto, using(crate::proofs::LineSteps::line_whole))]
-fn split_line(text: &[u8]) -> Option<(&[u8], &[u8])>
-    ensures { MatchOption result (IsUnbroken text.now)
-        (λ r. SplitsLine text.now r.0.now r.1.now) }
+/// How many bytes stand before the first one that ends a line.
+fn line_length(kind: ReportKind, text: &[u8]) -> usize
+    ensures is { result ≡ prefix_len (is_in_line kind) text.now }
+    ensures within { result ≤ length text.now }
 {
-    let count = line_length(text);
+    text.iter()
+        .take_while(|byte| is_line_byte(kind, **byte))
+        .count()
+}
+
+/// The first line of a text, the byte that ends it, and what comes after that, if there is one.
+#[tactic(auto, using(crate::proofs::LineSteps::line_whole))]
+fn split_line(kind: ReportKind, text: &[u8]) -> Option<(&[u8], u8, &[u8])>
+    ensures { MatchOption result (IsUnbroken kind text.now)
+        (λ r. SplitsLine kind text.now r.0.now r.1 r.2.now) }
+{
+    let count = line_length(kind, text);
     if count < text.len() {
-        Some((&text[..count], &text[count + 1..]))
+        Some((&text[..count], text[count], &text[count + 1..]))
     } else {
         None
     }
 }
 
-/// Appends the lines of a text that newlines end, each with the text of its name, and gives what
-/// comes after them.
+/// Appends the lines that end in a text, each with the text of its name, and gives what comes after
+/// them.
 ///
 /// # Errors
 /// Memory ran out.
@@ -127,13 +210,13 @@ pub(crate) fn append_lines<'t>(
     text: &'t [u8],
     output: &mut Vec<u8>,
 ) -> Result<&'t [u8], AllocError>
-    ensures { IfOk result (λ rest. IsUnbroken rest.now × ((named : List ℕ)
+    ensures { IfOk result (λ rest. IsUnbroken kind rest.now × ((named : List ℕ)
         × Undecorates kind text.now rest.now named
         × (output.new.items ≡ output.old.items ++ named))) }
 {
     let mut rest = text;
-    while let Some((line, after)) = split_line(rest) {
-        append_line(alloc, kind, line, output)?;
+    while let Some((line, end, after)) = split_line(kind, rest) {
+        append_line(alloc, kind, line, end, output)?;
         rest = after;
     }
     Ok(rest)

@@ -8,21 +8,21 @@ use pdb_engine::ErrorOutput;
 use std::alloc::{AllocError, Global};
 use std::io::{self, ErrorKind, Write};
 
-/// Lines that newlines end, with the texts of their names, and what comes after them.
+/// Lines with the texts of their names, and what comes after them.
 #[derive(Drop)]
 struct EndedLines {
     named: Vec<u8>,
     pending: Vec<u8>,
 }
 
-/// The lines that newlines end of a text and of the bytes that come after it.
+/// The lines that end in a text and in the bytes that come after it.
 fn ended_lines(
     alloc: Global,
     kind: ReportKind,
     pending: &[u8],
     bytes: &[u8],
 ) -> Result<EndedLines, AllocError>
-    ensures { IfOk result (λ ended. IsUnbroken ended.pending.items
+    ensures { IfOk result (λ ended. IsUnbroken kind ended.pending.items
         × Undecorates kind (pending.now ++ bytes.now) ended.pending.items ended.named.items) }
 {
     let mut text = Vec::new(alloc);

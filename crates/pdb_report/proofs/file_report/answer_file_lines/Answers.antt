@@ -15,14 +15,14 @@ returns-clause-run g c =
       | in-Ok w ↦ subst (λ (r : Result (Unit {0}) RunFault). ReportsIfKnown (IsKnown c.run.new.answers)
           g.L.LineForm.text (frames_loaded (file_of c.args.lines.now)) (2 ^ 30) g.R.Read.remaining g.W.Write.contents
           c.args.reader.now c.run.new.reader c.args.writer.now c.run.new.writer r) (sym w.result-is)
-          (known_well remaining contents (2 ^ 30) g.L.LineForm.text (IsKnown c.run.new.answers) c.args.reader.now
+          (known_well g.L.LineForm.text remaining contents (2 ^ 30) (IsKnown c.run.new.answers) c.args.reader.now
           c.run.new.reader c.args.writer.now c.run.new.writer file tt w.in-Ok.ensures.ok
           w.in-Ok.ensures.quiet)
       | in-Err-OutOfMemory w ↦ subst (λ (r : Result (Unit {0}) RunFault). ReportsIfKnown
           (IsKnown c.run.new.answers) g.L.LineForm.text (frames_loaded (file_of c.args.lines.now)) (2 ^ 30)
           g.R.Read.remaining g.W.Write.contents c.args.reader.now c.run.new.reader c.args.writer.now
           c.run.new.writer r) (sym w.result-is)
-          (known_short remaining contents (2 ^ 30) g.L.LineForm.text (IsKnown c.run.new.answers) c.args.reader.now
+          (known_short g.L.LineForm.text remaining contents (2 ^ 30) (IsKnown c.run.new.answers) c.args.reader.now
           c.run.new.reader c.args.writer.now c.run.new.writer file w.memory_fault.result
           w.memory_fault.ensures w.in-Err-OutOfMemory.ensures.part)
       | in-Err w ↦ subst (λ (r : Result (Unit {0}) RunFault). ReportsIfKnown
@@ -33,7 +33,7 @@ returns-clause-run g c =
           (IsKnown c.run.new.answers) g.L.LineForm.text (frames_loaded (file_of c.args.lines.now)) (2 ^ 30)
           g.R.Read.remaining g.W.Write.contents c.args.reader.now c.run.new.reader c.args.writer.now
           c.run.new.writer (Err fault)) (sym w.from.ensures)
-          (known_early remaining contents (2 ^ 30) g.L.LineForm.text (IsKnown c.run.new.answers) c.args.reader.now
+          (known_early g.L.LineForm.text remaining contents (2 ^ 30) (IsKnown c.run.new.answers) c.args.reader.now
           c.run.new.reader c.args.writer.now c.run.new.writer file w.in-Err.fault
           w.in-Err.ensures.kind w.in-Err.ensures.read_fails w.in-Err.ensures.write_fails
           w.in-Err.ensures.read_out w.in-Err.ensures.too_long w.in-Err.ensures.part))

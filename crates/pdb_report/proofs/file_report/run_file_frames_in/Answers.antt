@@ -40,7 +40,7 @@ returns-in-Err-clause-report g c = record {
       (agrees c.in-Err.field-0.source.views c.args.source.contents.numbers ≡ true) g.L.LineForm.text (frames_of c.args.source) (2 ^ 30)
       g.R.Read.remaining g.W.Write.contents c.args.reader.now c.args.reader.now c.args.writer.now
       c.args.writer.now (Err fault)) (sym c.from.ensures)
-      (file_refused g.R.Read.remaining g.W.Write.contents (2 ^ 30) g.L.LineForm.text
+      (file_refused g.L.LineForm.text g.R.Read.remaining g.W.Write.contents (2 ^ 30)
       (agrees c.in-Err.field-0.source.views c.args.source.contents.numbers ≡ true) (frames_of c.args.source)
       c.args.reader.now c.args.writer.now c.in-Err.field-0.fault c.in-Err.ensures.refused);
 }
