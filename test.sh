@@ -18,6 +18,7 @@ fi
 TIMEFORMAT='rt ci took %U seconds of user time, %S of system time and %R of wall time'
 time count rt ci
 count python3 tests/recorded_reports.py
+count python3 tests/json_reports.py
 count python3 tests/refused_requests/sweep.py
 count tests/commands.sh
 count tests/manual.sh

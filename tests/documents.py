@@ -78,6 +78,11 @@ def records_in(path):
     return found
 
 
+def abbreviated_in(path):
+    """The definitions of a file that stand for another one, each with that one."""
+    return re.findall(r"(?m)^(Reports\w+) [^=]*=\s+(\w+)", read(path))
+
+
 def functions_in(path, records):
     """The functions of a file."""
     crate = path.split("/")[1]
@@ -129,6 +134,8 @@ class Sources:
         self.functions, records = collections.defaultdict(list), {}
         for path in sources("crates/*/specs/**/*.antt"):
             records.update(records_in(path))
+        for path in sources("crates/*/specs/**/*.antt"):
+            records.update((it, records[of]) for it, of in abbreviated_in(path) if of in records)
         for path in sources("crates/*/src/**/*.rt"):
             for it in functions_in(path, records):
                 self.functions[it.name].append(it)

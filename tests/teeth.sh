@@ -70,6 +70,7 @@ counted() { # NAME DOES PASSED FAILED
 }
 
 over_nothing recorded_reports.py 2 row_before-first-function_F row_one-line_F
+over_nothing json_reports.py 1 row_before-first-function_F
 over_nothing refused_requests/sweep.py 4 row_one-line_F 'llvm llvm' \
     'read sections plain.pdb 2608:0b' 'formatter signatures.hex 23'
 over_nothing commands.sh 7 --quick README.md
