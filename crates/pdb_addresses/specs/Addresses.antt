@@ -1,5 +1,7 @@
 -- RVAs: the addresses of an image, and those of the space in which its database was written.
 use Rattle.std.specs.Prelude.{ℕ, Bool, true, ◌&&◌, List, Option, None, Some, option_and_then}
+use Rattle.std.specs.Prelude.{option_map}
+use Rattle.std.specs.Global.{Vec}
 use Rattle.pdb_addresses.specs.declared.sections.ImageSectionHeader.{ImageSectionHeader}
 use Rattle.pdb_addresses.specs.declared.omap.OMAPRecord.{OMAPRecord}
 use Rattle.pdb_addresses.specs.Omap.{AreSourcesInOrder, are_sources_in_order, translated}
@@ -21,6 +23,13 @@ map_of None image to_internal to_image =
     record { internal = image; image = image; to_internal = None; to_image = None }
 map_of (Some original) image to_internal to_image =
     record { internal = original; image = image; to_internal = to_internal; to_image = to_image }
+
+-- the map of these vectors
+abbrev pub map_of_vectors : Option (Vec ImageSectionHeader) → Vec ImageSectionHeader
+    → Option (Vec OMAPRecord) → Option (Vec OMAPRecord) → Map
+map_of_vectors original image to_internal to_image =
+    map_of (option_map (λ v. v.items) original) image.items
+    (option_map (λ v. v.items) to_internal) (option_map (λ v. v.items) to_image)
 
 -- a map, if there is one, has no source below the one before it
 abbrev pub IsInOrder : Option (List OMAPRecord) → Type 0

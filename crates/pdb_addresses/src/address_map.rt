@@ -3,7 +3,7 @@
 
 ghost use Rattle.std.specs.Prelude.{◌≡◌, option_map, IfOk};
 ghost use Rattle.std.specs.Bool.{Decides};
-ghost use Rattle.pdb_addresses.specs.Addresses.{map_of, IsInOrder, IsOrdered};
+ghost use Rattle.pdb_addresses.specs.Addresses.{map_of, map_of_vectors, IsInOrder, IsOrdered};
 ghost use Rattle.pdb_addresses.specs.Addresses.{is_in_order as in_order, is_ordered, inner, outer};
 ghost use Rattle.pdb_addresses.specs.Omap.{translated, records_of};
 
@@ -49,9 +49,8 @@ impl<'s> AddressMap<'s> {
         to_original: Option<Vec<OMAPRecord>>,
         to_image: Option<Vec<OMAPRecord>>,
     ) -> Result<AddressMap<'s>, AllocError>
-        ensures { IfOk result
-            (λ m. m ≡ map_of (option_map (λ v. v.items) original_sections) image_sections.items
-            (option_map (λ v. v.items) to_original) (option_map (λ v. v.items) to_image)) }
+        ensures { IfOk result (λ m.
+            m ≡ map_of_vectors original_sections image_sections to_original to_image) }
     {
         Ok(AddressMap {
             original_sections: list_if_there(alloc, original_sections)?,

@@ -1,7 +1,8 @@
 //! Laws of the definitions: functions that do nothing, whose contracts are proved.
 
-ghost use Rattle.std.specs.Prelude.{◌≡◌, ◌≢◌, ◌↔◌, ◌<◌, ◌^◌, ℕ, List, Option, None, Some, true};
+ghost use Rattle.std.specs.Prelude.{◌≡◌, ◌≢◌, ◌↔◌, ◌<◌, ◌^◌, ℕ, List, Option, None, Some};
 ghost use Rattle.std.specs.declared.cmp.Ordering.TheVariants.{Equal};
+ghost use Rattle.pdb_container.specs.EqualHashing.{HashAlike};
 ghost use Rattle.std.specs.Bool.{Decides};
 ghost use Rattle.pdb_addresses.specs.Addresses.{Map, IsOrdered, is_ordered, inner, outer};
 ghost use Rattle.pdb_addresses.specs.PartedRuns.{laid_out, one_by_one, AreParted};
@@ -9,10 +10,6 @@ ghost use Rattle.pdb_addresses.specs.Places.{Place};
 ghost use Rattle.pdb_addresses.specs.Ranges.{runs};
 ghost use Rattle.pdb_addresses.specs.Sections.{place, address};
 ghost use Rattle.pdb_addresses.specs.declared.omap.OMAPRecord.{OMAPRecord as Record};
-ghost use Rattle.pdb_addresses.specs.declared.rva.Rva.{Rva as ImageAddress};
-ghost use Rattle.pdb_addresses.specs.declared.internal_rva.PdbInternalRva.{
-  PdbInternalRva as InternalAddress,
-};
 ghost use Rattle.pdb_addresses.specs.declared.section_offset.SectionOffset.{
   SectionOffset as ImagePlace,
 };
@@ -75,18 +72,11 @@ pub fn compared_places()
 /// `==` of addresses and places returns true exactly for one and the same value, and equal values
 /// hash alike.
 pub fn equal_hash_alike()
-    ensures image_address { (a b : ImageAddress) → ((⟦<Rva as PartialEq>⟧.eq a b ≡ true) ↔ (a ≡ b))
-        × (a ≡ b → ⟦<Rva as Hash>⟧.hash_input a ≡ ⟦<Rva as Hash>⟧.hash_input b) }
-    ensures internal_address { (a b : InternalAddress)
-        → ((⟦<PdbInternalRva as PartialEq>⟧.eq a b ≡ true) ↔ (a ≡ b))
-        × (a ≡ b → ⟦<PdbInternalRva as Hash>⟧.hash_input a
-        ≡ ⟦<PdbInternalRva as Hash>⟧.hash_input b) }
-    ensures image_place { (a b : ImagePlace)
-        → ((⟦<SectionOffset as PartialEq>⟧.eq a b ≡ true) ↔ (a ≡ b))
-        × (a ≡ b → ⟦<SectionOffset as Hash>⟧.hash_input a
-        ≡ ⟦<SectionOffset as Hash>⟧.hash_input b) }
-    ensures internal_place { (a b : InternalPlace)
-        → ((⟦<PdbInternalSectionOffset as PartialEq>⟧.eq a b ≡ true) ↔ (a ≡ b))
-        × (a ≡ b → ⟦<PdbInternalSectionOffset as Hash>⟧.hash_input a
-        ≡ ⟦<PdbInternalSectionOffset as Hash>⟧.hash_input b) }
+    ensures image_address { HashAlike ⟦<Rva as PartialEq>⟧.eq ⟦<Rva as Hash>⟧.hash_input }
+    ensures internal_address { HashAlike ⟦<PdbInternalRva as PartialEq>⟧.eq
+        ⟦<PdbInternalRva as Hash>⟧.hash_input }
+    ensures image_place { HashAlike ⟦<SectionOffset as PartialEq>⟧.eq
+        ⟦<SectionOffset as Hash>⟧.hash_input }
+    ensures internal_place { HashAlike ⟦<PdbInternalSectionOffset as PartialEq>⟧.eq
+        ⟦<PdbInternalSectionOffset as Hash>⟧.hash_input }
 {}

@@ -8,6 +8,7 @@ pub mod First
 pub mod Limits
 pub mod Listings
 pub mod Literal
+pub mod Many
 pub mod Names
 pub mod Outside
 pub mod PageSize

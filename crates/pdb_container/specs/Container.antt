@@ -89,6 +89,21 @@ layout_of file = do
   front ← front_in file
   header_in front
 
+-- the first bytes of these pages
+abbrev pub bytes_in : ℕ → List ℕ → ℕ → List ℕ → Result (List ℕ) Fault
+bytes_in page_size pages size file = bytes_at file (page_places page_size pages size)
+
+-- the numbers that they spell
+abbrev pub words_in : ℕ → List ℕ → ℕ → List ℕ → Result (List ℕ) Fault
+words_in page_size pages size file =
+    bytes_in page_size pages size file >>= λ bytes. Ok (words bytes)
+
+-- the pages of the directory
+abbrev pub directory_pages_in : Layout → List ℕ → Result (List ℕ) Fault
+directory_pages_in h file =
+    bytes_at file (page_places h.page_size h.list_pages (4 * div_ceil h.directory_size h.page_size))
+    >>= λ list. pages_in h.pages_used (div_ceil h.directory_size h.page_size) (words list)
+
 -- the directory, as numbers
 unfoldable pub directory_of : Layout → List ℕ → Result (List ℕ) Fault
 directory_of h file = do

@@ -132,3 +132,7 @@ IsOfBytes e = Unit {0}
 abbrev pub Parses : {X Y : Type 0} → (X → Y) → Result X Error → Result Y Fault → Type 0
 Parses view (Ok x) read = read ≡ Ok (view x)
 Parses view (Err e) read = IsOfBytes e × (read ≡ Err (fault_of e))
+
+-- out of memory, or the fault that reading gives
+abbrev pub IsFaultOf : {Y : Type 0} → Result Y Fault → Error → Type 0
+IsFaultOf read e = (e ≡ errors.OutOfMemory) ⊎ (read ≡ Err (fault_of e))

@@ -2,11 +2,17 @@
 use Rattle.std.specs.Prelude.{◌≢◌, ℕ, ◌+◌, ◌*◌, ◌<◌, List, [], ◌∷◌}
 use Rattle.std.specs.List.{range_with_len}
 use Rattle.pdb_container.specs.declared.source.SourceSlice.{SourceSlice}
+use Rattle.pdb_container.specs.Places.{page_places}
 
 -- the size of a page, and the places of the list's bytes in the file
 pub record Pages : Type 0 where
   pub page_size : ℕ
   pub places : List ℕ
+
+-- the list of the first bytes of these pages
+abbrev pub first_pages : ℕ → List ℕ → ℕ → Pages
+first_pages page_size pages size =
+    record { page_size = page_size; places = page_places page_size pages size }
 
 -- the places of a page's bytes
 abbrev pub page : ℕ → ℕ → List ℕ

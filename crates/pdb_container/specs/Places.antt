@@ -1,6 +1,6 @@
 -- Bytes of a file by their places.
 use Rattle.std.specs.Prelude.{◌≡◌, ℕ, ◌+◌, ◌*◌, ◌/◌, ◌%◌, ◌<◌, List, length, map, slice_index}
-use Rattle.std.specs.Prelude.{nat_lt, Result, Ok, Err, if◌then◌else◌}
+use Rattle.std.specs.Prelude.{nat_lt, Option, MatchOption, Result, Ok, Err, IsOk, if◌then◌else◌}
 use Rattle.std.specs.List.{range_with_len, flat_map, list_all}
 use Rattle.std.specs.declared.io.ErrorKind.TheVariants.{UnexpectedEof}
 use Rattle.pdb_container.specs.Fault.{Fault}
@@ -20,6 +20,12 @@ unfoldable pub bytes_at : List ℕ → List ℕ → Result (List ℕ) Fault
 bytes_at file places =
     if list_all (λ at. nat_lt at (length file)) places
     then Ok (map (λ at. slice_index file at) places) else Err (IoError UnexpectedEof)
+
+-- there is something where the slices lie within the file, and nothing where one ends past it
+abbrev pub IsSomeWithin : {X : Type 0} → Option X → List ℕ → List SourceSlice → Type 0
+IsSomeWithin result file slices =
+    MatchOption result (bytes_at file (places_of slices) ≡ Err (IoError UnexpectedEof))
+    (λ _. IsOk (bytes_at file (places_of slices)))
 
 -- the places of the first bytes of these pages: byte i lies in page number i / size, at i % size
 unfoldable pub page_places : ℕ → List ℕ → ℕ → List ℕ

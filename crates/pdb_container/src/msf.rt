@@ -1,20 +1,22 @@
 //! MSF streams: the header, and the pages in which each stream lies.
 
 ghost use Rattle.std.specs.Prelude.{◌≡◌, ◌+◌, ◌-◌, ◌*◌, ◌%◌, ◌<◌, ◌≤◌, ◌^◌, ◌⊎◌, length, vec_len};
-ghost use Rattle.std.specs.Prelude.{take, drop, None, Some, Ok, IfOk, IfErr, IsOk};
+ghost use Rattle.std.specs.Prelude.{take, drop, None, Some, Ok, IfOk, IfErr};
 ghost use Rattle.std.specs.Int.{div_ceil};
 ghost use Rattle.pdb_container.specs.Container.{words, pages_in, header_in, front_in};
 ghost use Rattle.pdb_container.specs.Container.{behind_header as behind, layout_of, directory_of};
-ghost use Rattle.pdb_container.specs.Container.{stream_in, stream, at_most};
+ghost use Rattle.pdb_container.specs.Container.{stream_in, stream, at_most, bytes_in, words_in};
+ghost use Rattle.pdb_container.specs.Container.{directory_pages_in};
 ghost use Rattle.pdb_container.specs.Container.{list_count as lists_for};
 ghost use Rattle.pdb_container.specs.Directory.{IsKept};
-ghost use Rattle.pdb_container.specs.SourceAnswers.{AnswersFrom};
+ghost use Rattle.pdb_container.specs.SourceAnswers.{Answers, AnswersAs, AnswersItems};
+ghost use Rattle.pdb_container.specs.SourceAnswers.{IsFaultFrom, IsOpenedFrom, IsOpeningFault};
+ghost use Rattle.pdb_container.specs.Pages.{first_pages};
 ghost use Rattle.pdb_container.specs.Header.{layout, IsSound};
 ghost use Rattle.std.specs.declared.io.ErrorKind.TheVariants.{UnexpectedEof};
 ghost use Rattle.pdb_container.specs.declared.error.Error.TheVariants.{OutOfMemory};
-ghost use Rattle.pdb_container.specs.Fault.{error_of, fault_of, IoError, ◌>>=◌ as and_then, Gives};
+ghost use Rattle.pdb_container.specs.Fault.{error_of, fault_of, IoError, Gives};
 ghost use Rattle.pdb_container.specs.Fault.{HasRisen, IsOutside};
-ghost use Rattle.pdb_container.specs.Places.{bytes_at, page_places, IsPaged};
 
 use crate::directory::{Directory, pages_of};
 use crate::distinct_pages::pages_to_read;
@@ -95,8 +97,8 @@ fn read_pages<S: Source>(
     requires page_size { (0 < page_size) × (page_size ≤ 0x800000) }
     requires enough { size ≤ length pages.now * page_size }
     requires few { length pages.now < 2 ^ 32 }
-    ensures answer { AnswersFrom S.bytes S.failures source.old source.new (λ v. v) result
-        (bytes_at (S.bytes source.old) (page_places page_size pages.now size)) }
+    ensures answer { Answers S.Source source.old source.new result
+        (bytes_in page_size pages.now size) }
     ensures len { IfOk result (λ v. length v ≡ size) }
 {
     match list_of(alloc, page_size, pages, size) {
@@ -113,10 +115,7 @@ fn list_of(alloc: Global, page_size: u32, pages: &[u32], size: usize) -> Result<
     requires page_size { (0 < page_size) × (page_size ≤ 0x800000) }
     requires enough { size ≤ length pages.now * page_size }
     requires few { length pages.now < 2 ^ 32 }
-    ensures { Gives (λ l. l) ⊥ result (Ok (record {
-      page_size = page_size;
-      places = page_places page_size pages.now size;
-    })) }
+    ensures { Gives (λ l. l) ⊥ result (Ok (first_pages page_size pages.now size)) }
 {
     let mut list = PageList::new(alloc, page_size as usize);
     for page in pages {
@@ -137,9 +136,8 @@ fn read_words<S: Source>(
     requires page_size { (0 < page_size) × (page_size ≤ 0x800000) }
     requires enough { size ≤ length pages.now * page_size }
     requires few { length pages.now < 2 ^ 32 }
-    ensures answer { AnswersFrom S.bytes S.failures source.old source.new (λ v. v.items) result
-        (and_then (bytes_at (S.bytes source.old) (page_places page_size pages.now size))
-        (λ bytes. Ok (words bytes))) }
+    ensures answer { AnswersItems S.Source source.old source.new result
+        (words_in page_size pages.now size) }
 {
     match read_pages(source, alloc, page_size, pages, size) {
         Ok(bytes) => words_of(alloc, bytes.as_slice()),
@@ -151,13 +149,8 @@ fn read_words<S: Source>(
 #[tactic(auto, using(crate::proofs::Paging::pages_enough))]
 fn directory_pages<S: Source>(source: &mut S, alloc: Global, header: &Header) -> Result<Vec<u32>>
     requires { IsSound (layout header.now) }
-    ensures answer { AnswersFrom S.bytes S.failures source.old source.new (λ v. v.items) result
-        (and_then
-        (bytes_at (S.bytes source.old)
-        (page_places header.now.page_size header.now.list_pages.items
-        (4 * div_ceil header.now.directory_size header.now.page_size)))
-        (λ list. pages_in header.now.pages_used
-        (div_ceil header.now.directory_size header.now.page_size) (words list))) }
+    ensures answer { AnswersItems S.Source source.old source.new result
+        (directory_pages_in (layout header.now)) }
     ensures len { IfOk result
         (λ v. vec_len v ≡ div_ceil header.now.directory_size header.now.page_size) }
 {
@@ -184,9 +177,8 @@ fn read_paged<S: Source>(
     requires enough { size ≤ length pages.now * page_size }
     requires full { length pages.now * page_size < size + page_size }
     requires few { size < 2 ^ 32 }
-    ensures answer { AnswersFrom S.bytes S.failures source.old source.new (λ n. n) result
-        (and_then (bytes_at (S.bytes source.old) (page_places page_size pages.now size))
-        (λ bytes. Ok (words bytes))) }
+    ensures answer { Answers S.Source source.old source.new result
+        (words_in page_size pages.now size) }
 {
     let read = pages_to_read(alloc, page_size, pages, size)?;
     match read_pages(source, alloc, page_size, read.pages.as_slice(), read.size) {
@@ -199,8 +191,8 @@ fn read_paged<S: Source>(
 #[tactic(auto, using(crate::proofs::Paging::pages_enough, crate::proofs::Paging::pages_full))]
 fn read_numbers<S: Source>(source: &mut S, alloc: Global, header: &Header) -> Result<PagedNumbers>
     requires { IsSound (layout header.now) }
-    ensures answer { AnswersFrom S.bytes S.failures source.old source.new (λ n. n) result
-        (directory_of (layout header.now) (S.bytes source.old)) }
+    ensures answer { Answers S.Source source.old source.new result
+        (directory_of (layout header.now)) }
 {
     match directory_pages(source, alloc, header) {
         Ok(pages) => {
@@ -224,9 +216,8 @@ fn read_directory<S: Source>(
     ensures counts { S.failures source.old ≤ S.failures source.new }
     ensures kept { IfOk result
         (λ kept. IsKept (layout header.now) (S.bytes source.old) (Some kept)) }
-    ensures err { IfErr result
-        (λ e. IsOutside e (HasRisen (S.failures source.old) (S.failures source.new))
-        ⊎ (directory_of (layout header.now) (S.bytes source.old) ≡ Err (fault_of e))) }
+    ensures err { IfErr result (λ e.
+        IsFaultFrom S.Source source.old source.new e (directory_of (layout header.now))) }
 {
     match read_numbers(source, alloc, header) {
         Ok(numbers) => match Directory::new(alloc, header.page_size, numbers) {
@@ -257,8 +248,8 @@ fn read_stream<S: Source>(
 ) -> Result<ReadView>
     requires sound { IsSound (layout header.now) }
     requires kept { IsKept (layout header.now) (S.bytes source.old) (Some kept.now) }
-    ensures answer { AnswersFrom S.bytes S.failures source.old source.new (λ v. v) result
-        (stream_in (layout header.now) (S.bytes source.old) number limit) }
+    ensures answer { Answers S.Source source.old source.new result
+        (λ file. stream_in (layout header.now) file number limit) }
     ensures few { IfOk result (λ v. length v < 2 ^ 32) }
 {
     let directory = match kept {
@@ -296,8 +287,8 @@ fn read_anew<S: Source>(
     requires sound { IsSound (layout header.now) }
     requires kept { IsKept (layout header.now) (S.bytes source.old) directory.old }
     ensures kept { IsKept (layout header.now) (S.bytes source.old) directory.new }
-    ensures answer { AnswersFrom S.bytes S.failures source.old source.new (λ v. v) result
-        (stream_in (layout header.now) (S.bytes source.old) number limit) }
+    ensures answer { Answers S.Source source.old source.new result
+        (λ file. stream_in (layout header.now) file number limit) }
     ensures few { IfOk result (λ v. length v < 2 ^ 32) }
 {
     match read_directory(source, alloc, header) {
@@ -400,8 +391,7 @@ fn read_first<S: Source>(source: &mut S, alloc: Global, size: usize) -> io::Resu
 
 #[tactic(auto, using(crate::proofs::First::not_past), unfolding(crate::specs::Container::front_in))]
 fn read_front<S: Source>(source: &mut S, alloc: Global) -> Result<ReadView>
-    ensures answer { AnswersFrom S.bytes S.failures source.old source.new (λ v. v) result
-        (front_in (S.bytes source.old)) }
+    ensures answer { Answers S.Source source.old source.new result front_in }
     ensures len { IfOk result (λ v. length v ≡ 4096) }
 {
     match read_first(source, alloc, HEADER_VIEW) {
@@ -428,8 +418,8 @@ pub trait Msf<'s, S: Source> {
     /// and where the source failed; `OutOfMemory`, also where the source refuses to have the
     /// stream's pages listed.
     fn get(&mut self, alloc: Global, stream_number: u32, limit: Option<usize>) -> Result<Stream<'s>>
-        ensures { AnswersFrom S.bytes S.failures (source self.old) (source self.new) (λ s. s) result
-            (stream (S.bytes (source self.old)) stream_number limit) };
+        ensures { Answers S.Source (source self.old) (source self.new) result
+            (λ file. stream file stream_number limit) };
 }
 
 /// An open big MSF container over a source, which is its value in contracts.
@@ -505,8 +495,8 @@ impl<'s, S: Source> BigMSF<'s, S> {
         stream_number: u32,
     ) -> Result<Stream<'s>>
         requires { T.bytes source.old ≡ S.bytes self.now }
-        ensures { AnswersFrom T.bytes T.failures source.old source.new (λ s. s) result
-            (stream (T.bytes source.old) stream_number None) }
+        ensures { Answers T.Source source.old source.new result
+            (λ file. stream file stream_number None) }
     {
         match self.view_from(source, alloc, stream_number) {
             Ok(view) => Ok(Stream {
@@ -520,8 +510,8 @@ impl<'s, S: Source> BigMSF<'s, S> {
     #[tactic(auto, unfolding(crate::specs::Container::stream))]
     fn view_from<T: Source>(&self, source: &mut T, alloc: Global, number: u32) -> Result<ReadView>
         requires { T.bytes source.old ≡ S.bytes self.now }
-        ensures answer { AnswersFrom T.bytes T.failures source.old source.new (λ v. v) result
-            (stream (T.bytes source.old) number None) }
+        ensures answer { Answers T.Source source.old source.new result
+            (λ file. stream file number None) }
         ensures few { IfOk result (λ v. length v < 2 ^ 32) }
     {
         match &self.directory {
@@ -532,8 +522,8 @@ impl<'s, S: Source> BigMSF<'s, S> {
 
     #[tactic(auto, unfolding(crate::specs::Container::stream))]
     fn view_of(&mut self, alloc: Global, number: u32, limit: Option<usize>) -> Result<ReadView>
-        ensures answer { AnswersFrom S.bytes S.failures self.old self.new (λ v. v) result
-            (stream (S.bytes self.old) number limit) }
+        ensures answer { Answers S.Source self.old self.new result
+            (λ file. stream file number limit) }
         ensures few { IfOk result (λ v. length v < 2 ^ 32) }
     {
         match &self.directory {
@@ -572,8 +562,7 @@ fn first_directory<S: Source>(
 /// The header of a source.
 #[tactic(auto, using(crate::proofs::Outside::outside_alone), unfolding(crate::specs::Container::layout_of))]
 fn read_header<S: Source>(source: &mut S, alloc: Global) -> Result<Header>
-    ensures answer { AnswersFrom S.bytes S.failures source.old source.new layout result
-        (layout_of (S.bytes source.old)) }
+    ensures answer { AnswersAs S.Source source.old source.new layout result layout_of }
     ensures sound { IfOk result (λ h. IsSound (layout h)) }
 {
     match read_front(source, alloc) {
@@ -591,14 +580,8 @@ fn read_header<S: Source>(source: &mut S, alloc: Global) -> Result<Header>
 /// `IoError` where the source failed; `OutOfMemory`.
 #[tactic(auto, using(crate::proofs::Outside::outside_with))]
 pub fn open_msf<'s, S: Source + Drop>(alloc: Global, mut source: S) -> Result<BigMSF<'s, S>>
-    ensures file { IfOk result
-        (λ m. (S.bytes m ≡ S.bytes source) × (S.failures source ≤ S.failures m)
-        × IsOk (layout_of (S.bytes source))) }
-    ensures err { IfErr result
-        (λ e. IsOutside e
-        ((after : S) × (S.bytes after ≡ S.bytes source)
-        × HasRisen (S.failures source) (S.failures after))
-        ⊎ (layout_of (S.bytes source) ≡ Err (fault_of e))) }
+    ensures file { IfOk result (λ m. IsOpenedFrom S.Source source m) }
+    ensures err { IfErr result (λ e. IsOpeningFault S.Source source e) }
 {
     match read_header(&mut source, alloc) {
         Ok(header) => match first_directory(&mut source, alloc, &header) {

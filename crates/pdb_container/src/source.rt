@@ -1,11 +1,9 @@
 //! Sources: where a container's bytes come from.
 
 ghost use Rattle.std.specs.Prelude.{◌≡◌, ℕ, ◌+◌, ◌≤◌, ◌-◌, ◌^◌, List, length, min, is_ok, IsOk};
-ghost use Rattle.std.specs.Prelude.{IfSome, IfOk, IfErr, MatchOption, ◌⊎◌};
-ghost use Rattle.std.specs.declared.io.ErrorKind.TheVariants.{UnexpectedEof};
-ghost use Rattle.pdb_container.specs.Fault.{error_of, fault_of, IoError, HasRisen, IsOutside};
-ghost use Rattle.pdb_container.specs.Places.{slice_places, places_of, bytes_at};
-ghost use Rattle.pdb_container.specs.declared.error.Error.TheVariants.{OutOfMemory};
+ghost use Rattle.std.specs.Prelude.{IfSome, IfOk, IfErr, ◌⊎◌};
+ghost use Rattle.pdb_container.specs.Fault.{error_of, fault_of, HasRisen, IsOutside, IsFaultOf};
+ghost use Rattle.pdb_container.specs.Places.{slice_places, places_of, bytes_at, IsSomeWithin};
 
 use crate::error::Error;
 use crate::shared_bytes::SharedBytes;
@@ -170,8 +168,7 @@ fn only_slice(slices: &[SourceSlice]) -> Option<SourceSlice>
 fn share_slice(file: &SharedBytes, slice: SourceSlice) -> io::Result<ReadView>
     ensures ok { IfOk result (λ v. bytes_at file.now (slice_places slice) ≡ Ok v) }
     ensures err { IfErr result
-        (λ e. (error_of e ≡ OutOfMemory)
-        ⊎ (bytes_at file.now (slice_places slice) ≡ Err (fault_of (error_of e)))) }
+        (λ e. IsFaultOf (bytes_at file.now (slice_places slice)) (error_of e)) }
 {
     if !is_within(file.as_slice(), slice) {
         return Err(ErrorKind::UnexpectedEof.into());
@@ -189,8 +186,7 @@ fn share_slice(file: &SharedBytes, slice: SourceSlice) -> io::Result<ReadView>
 fn copy_slices(alloc: Global, file: &[u8], slices: &[SourceSlice]) -> io::Result<ReadView>
     ensures ok { IfOk result (λ v. bytes_at file.now (places_of slices.now) ≡ Ok v) }
     ensures err { IfErr result
-        (λ e. (error_of e ≡ OutOfMemory)
-        ⊎ (bytes_at file.now (places_of slices.now) ≡ Err (fault_of (error_of e)))) }
+        (λ e. IsFaultOf (bytes_at file.now (places_of slices.now)) (error_of e)) }
 {
     let Some(size) = size_within(file, slices) else {
         return Err(ErrorKind::UnexpectedEof.into());
@@ -207,9 +203,7 @@ fn copy_slices(alloc: Global, file: &[u8], slices: &[SourceSlice]) -> io::Result
 /// file.
 #[tactic(auto, using(crate::proofs::Bytes::within_more, crate::proofs::Bytes::within_fail, crate::proofs::Bytes::within_done, crate::proofs::Slices::places_len_more))]
 pub fn size_within(file: &[u8], slices: &[SourceSlice]) -> Option<usize>
-    ensures within { MatchOption result
-        (bytes_at file.now (places_of slices.now) ≡ Err (IoError UnexpectedEof))
-        (λ _. IsOk (bytes_at file.now (places_of slices.now))) }
+    ensures within { IsSomeWithin result file.now slices.now }
     ensures size { IfSome result (λ size. size ≡ min (length (places_of slices.now)) (2 ^ 64 - 1)) }
 {
     let mut size = 0usize;

@@ -1,7 +1,10 @@
-//! What a program database is made of: its container, the records of types and ids, and the
-//! addresses of its image.
+//! Tables of types (TPI, stream 2) and of ids (IPI, stream 4): their items in order, and by their
+//! indices; and the names of all that a program database is made of: its container, the records of
+//! types and ids, and the addresses of its image. The layout of tables is that of LLVM's The PDB
+//! TPI and IPI Streams.
 //!
-//! It has no code of its own. A name may be added; none may be taken away, since users name them.
+//! How an item is searched may change. Which item has an index, and how far a finder knows the
+//! table, may not. A name may be added; none may be taken away, since users name them.
 //!
 //! A type is found in the table that a database has of them, by its index, and read:
 //!
@@ -24,22 +27,31 @@
 //! The program `recorded_cases` has all of it.
 #![tactic(auto)]
 
+mod header;
+mod item;
+mod item_finder;
+mod item_information;
+mod item_iter;
+pub mod item_laws;
+mod item_list;
+
+pub use item::Item;
+pub use item_finder::{ItemFinder, find_counting};
+pub use item_information::{
+    Id, IdFinder, IdInformation, IdIter, ItemInformation, Type, TypeFinder, TypeInformation,
+    TypeIter,
+};
+pub use item_iter::ItemIter;
 pub use pdb_addresses::{
     AddressMap, ImageSectionHeader, OMAPRecord, PdbInternalRva, PdbInternalRvaRangeIter,
     PdbInternalSectionOffset, Rva, RvaRangeIter, SectionCharacteristics, SectionOffset,
     laws as address_laws, parse_omap, parse_section_headers,
 };
 pub use pdb_container::{
-    BigMSF, BoundedBytes, Error, FallibleIterator, FromBuffer, ModuleFault, Msf, PageList,
-    ParseBuffer, RawString, ReadView, Result, SharedBytes, Source, SourceSlice, Stream, StringRef,
-    StringTable, laws as container_laws, open_msf,
-};
-pub use pdb_indices::{
-    FileIndex, IdIndex, ItemIndex, Local, SymbolIndex, TypeIndex, Variant, laws as index_laws,
-};
-pub use pdb_items::{
-    Id, IdFinder, IdInformation, IdIter, Item, ItemFinder, ItemInformation, ItemIter, Type,
-    TypeFinder, TypeInformation, TypeIter, laws as item_laws,
+    BigMSF, BoundedBytes, Error, FallibleIterator, FileIndex, FromBuffer, IdIndex, ItemIndex,
+    Local, ModuleFault, Msf, PageList, ParseBuffer, RawString, ReadView, Result, SharedBytes,
+    Source, SourceSlice, Stream, StringRef, StringTable, SymbolIndex, TypeIndex, Variant,
+    index_laws, laws as container_laws, open_msf,
 };
 pub use pdb_records::{
     ArgumentList, ArrayType, BaseClassType, BitfieldType, BuildInfoId, ClassKind, ClassType,

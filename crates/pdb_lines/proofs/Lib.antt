@@ -1,3 +1,6 @@
+mod Entries
+mod OneMore
+mod Steps
 pub mod FileSteps
 pub mod Halving
 pub mod MarkSteps

@@ -1,5 +1,10 @@
 pub mod Checksums
-pub mod MarksLeft
+pub mod InlinedRows
+pub mod Inlinee
+pub mod Inlinees
 pub mod LineMarks
 pub mod LineRows
 pub mod LinesSubsections
+pub mod MarksLeft
+pub mod Operands
+pub mod RowsToCome

@@ -7,8 +7,9 @@ ghost use Rattle.pdb_container.specs.Listing.{ending, Advances};
 ghost use Rattle.pdb_lines.specs.Checksums.{checksum_of, file_at, files_of, file_in, checksum_seen};
 ghost use Rattle.pdb_lines.specs.Checksums.{file_seen};
 
-use pdb_container::{Error, FallibleIterator, ParseBuffer, Result, StringRef, padding_behind};
-use pdb_indices::FileIndex;
+use pdb_container::{
+    Error, FallibleIterator, FileIndex, ParseBuffer, Result, StringRef, padding_behind,
+};
 use std::marker::Model;
 
 /// The kind of a checksum by SHA-256, the last that is known.

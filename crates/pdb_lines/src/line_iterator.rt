@@ -39,7 +39,7 @@ fn closer(first: Option<u32>, second: Option<u32>) -> Option<u32>
 }
 
 /// A row that a mark follows.
-fn up_to(row: LineInfo, section: u16, place: u64) -> LineInfo
+fn row_up_to(row: LineInfo, section: u16, place: u64) -> LineInfo
     ensures { result
         ≡ with_length row (closer_of row.length (distance_to row.offset section place)) }
 {
@@ -54,14 +54,14 @@ fn up_to_mark(row: Option<LineInfo>, section: u16, place: u64) -> Option<LineInf
 {
     match row {
         None => None,
-        Some(row) => Some(up_to(row, section, place)),
+        Some(row) => Some(row_up_to(row, section, place)),
     }
 }
 
 /// What a mark does after a row that may have begun: the row that ends there, and the one that
 /// begins.
 #[tactic(auto, using(crate::proofs::RowSteps::behind_entry, crate::proofs::RowSteps::behind_end))]
-fn pass(row: Option<LineInfo>, mark: LineMark) -> (Option<LineInfo>, Option<LineInfo>)
+fn pass_mark(row: Option<LineInfo>, mark: LineMark) -> (Option<LineInfo>, Option<LineInfo>)
     ensures { (others : Listing MarkValue) → rows_with_begun row (before mark others)
         ≡ with_row result.0 (rows_with_begun result.1 others) }
 {
@@ -102,7 +102,7 @@ fn next_row(
 {
     let mut row = row;
     while let Some(mark) = marks.next()? {
-        let (done, begun) = pass(row, mark);
+        let (done, begun) = pass_mark(row, mark);
         if done.is_some() {
             return Ok((done, begun));
         }

@@ -10,8 +10,7 @@ ghost use Rattle.pdb_lines.specs.LineMarks.{entry_row, entry_mark};
 use crate::line_mark::{ALSO_HIDDEN, HIDDEN, LineMark};
 use crate::lines_subsection::LinesSubsection;
 use pdb_addresses::PdbInternalSectionOffset;
-use pdb_container::{Error, ParseBuffer, Result, half_at, word_at};
-use pdb_indices::FileIndex;
+use pdb_container::{Error, FileIndex, ParseBuffer, Result, half_at, word_at};
 use pdb_subsections::{LineInfo, LineInfoKind};
 use std::marker::Model;
 
@@ -130,7 +129,7 @@ fn is_line(line: u32) -> bool
 }
 
 /// Whether bit 31 is set.
-fn kind_by(flags: u32) -> LineInfoKind
+fn kind_by_flags(flags: u32) -> LineInfoKind
     ensures { result ≡ line_kind flags }
 {
     if flags < 0x8000_0000 {
@@ -195,7 +194,7 @@ impl<'a> LinesBlock<'a> {
             line_end: line,
             column_start: column_at(self.columns, 4 * index),
             column_end: column_at(self.columns, 4 * index + 2),
-            kind: kind_by(flags),
+            kind: kind_by_flags(flags),
         })
     }
 

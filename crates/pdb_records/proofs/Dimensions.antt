@@ -6,7 +6,7 @@ use Rattle.std.specs.Int.{w8}
 use Rattle.pdb_container.specs.Fault.{Fault, UnexpectedEof, ◌>>=◌}
 use Rattle.pdb_container.specs.Fields.{number_at}
 use Rattle.pdb_records.specs.TypeRecords.{dimension_at, dimensions_within}
-use Rattle.pdb_indices.proofs.Many.{many_front, regroup}
+use Rattle.pdb_container.proofs.Many.{many_front, regroup}
 
 -- no dimension before all of them
 pub dimensions_start : (count : ℕ) (bytes : List ℕ)

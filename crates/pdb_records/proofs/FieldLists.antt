@@ -3,7 +3,7 @@ use Rattle.std.proofs.Common.{◌≡◌, ◌≢◌, ◌⊎◌, inl, inr, ℕ, su
 use Rattle.std.proofs.Common.{Option, None, Result, Ok, Err, refl, sym, ◌∙◌, arith, length}
 use Rattle.pdb_container.specs.declared.error.Error.{Error}
 use Rattle.pdb_container.specs.Fault.{Fault, ◌>>=◌, IsOutside, fault_of}
-use Rattle.pdb_indices.specs.declared.index.TypeIndex.{TypeIndex}
+use Rattle.pdb_container.specs.declared.index.TypeIndex.{TypeIndex}
 use Rattle.pdb_records.specs.Forms as forms
 use Rattle.pdb_records.specs.Forms.{PlainForm, TypeForm}
 use Rattle.pdb_records.specs.TypeLeaves.{FieldForm, field_at, fields_within, with_field}

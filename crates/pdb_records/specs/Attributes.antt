@@ -10,7 +10,7 @@ use Rattle.pdb_records.specs.declared.type_attributes.PointerKind.{PointerKind}
 use Rattle.pdb_records.specs.declared.type_attributes.PointerKind.TheVariants as kinds
 use Rattle.pdb_records.specs.declared.type_attributes.PointerMode.{PointerMode}
 use Rattle.pdb_records.specs.declared.type_attributes.PointerMode.TheVariants as modes
-use Rattle.pdb_indices.specs.Bits.{has_bit}
+use Rattle.pdb_container.specs.Bits.{has_bit}
 
 -- ---- types
 

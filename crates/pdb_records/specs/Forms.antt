@@ -1,9 +1,9 @@
 -- What a record says, with the bytes of its names and the elements of its lists in place of where
 -- they lie.
 use Rattle.std.specs.Prelude.{ℕ, List, Option}
-use Rattle.pdb_indices.specs.declared.index.TypeIndex.{TypeIndex}
+use Rattle.pdb_container.specs.declared.index.TypeIndex.{TypeIndex}
 use Rattle.pdb_records.specs.declared.primitive.PrimitiveType.{PrimitiveType}
-use Rattle.pdb_indices.specs.declared.variant.Variant.{Variant}
+use Rattle.pdb_container.specs.declared.variant.Variant.{Variant}
 use Rattle.pdb_records.specs.declared.type_attributes.TypeProperties.{TypeProperties}
 use Rattle.pdb_records.specs.declared.type_attributes.FieldAttributes.{FieldAttributes}
 use Rattle.pdb_records.specs.declared.type_data.ClassKind.{ClassKind}

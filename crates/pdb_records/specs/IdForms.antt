@@ -1,8 +1,8 @@
 -- What a record of an id says, with the bytes of its name and the elements of its list in place of
 -- where they lie.
 use Rattle.std.specs.Prelude.{ℕ, List, Option}
-use Rattle.pdb_indices.specs.declared.index.TypeIndex.{TypeIndex}
-use Rattle.pdb_indices.specs.declared.index.IdIndex.{IdIndex}
+use Rattle.pdb_container.specs.declared.index.TypeIndex.{TypeIndex}
+use Rattle.pdb_container.specs.declared.index.IdIndex.{IdIndex}
 use Rattle.pdb_records.specs.declared.id_data.IdData.{IdData}
 use Rattle.pdb_records.specs.declared.id_data.IdData.TheVariants as ids
 use Rattle.pdb_records.specs.declared.id_data.FunctionId.{FunctionId}

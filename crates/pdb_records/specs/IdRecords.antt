@@ -7,13 +7,13 @@ use Rattle.std.specs.Int.{w16, w32}
 use Rattle.pdb_container.specs.Fault.{Fault, UnimplementedTypeKind, ◌>>=◌}
 use Rattle.pdb_container.specs.Container.{half_at, word_at}
 use Rattle.pdb_container.specs.Fields.{Reader, bytes_of, number_at}
-use Rattle.pdb_indices.specs.declared.index.TypeIndex.{TypeIndex}
-use Rattle.pdb_indices.specs.declared.index.IdIndex.{IdIndex}
+use Rattle.pdb_container.specs.declared.index.TypeIndex.{TypeIndex}
+use Rattle.pdb_container.specs.declared.index.IdIndex.{IdIndex}
 use Rattle.pdb_records.specs.declared.id_data.UserDefinedTypeSourceFileRef.TheVariants as files
 use Rattle.pdb_records.specs.declared.id_data.UserDefinedTypeSourceId.{UserDefinedTypeSourceId}
 use Rattle.pdb_records.specs.IdForms as forms
 use Rattle.pdb_records.specs.IdForms.{IdForm, FunctionForm, MemberFunctionForm, StringForm}
-use Rattle.pdb_indices.specs.RecordFields.{type_index_at, id_index_at, name_at, many_at, as_value}
+use Rattle.pdb_container.specs.RecordFields.{type_index_at, id_index_at, name_at, many_at, as_value}
 
 -- the id that a number names: none for 0 and for 0xffff
 abbrev pub optional_id : ℕ → Option IdIndex

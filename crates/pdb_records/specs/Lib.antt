@@ -2,6 +2,7 @@ pub mod Attributes
 pub mod Forms
 pub mod IdForms
 pub mod IdRecords
+pub mod Parsing
 pub mod Primitives
 pub mod Shapes
 pub mod TypeLeaves

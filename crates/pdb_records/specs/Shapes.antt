@@ -25,6 +25,11 @@ use Rattle.pdb_records.specs.Forms.{PlainForm, TypeForm}
 abbrev pub names_shape : RawString × Option RawString → List ℕ × Option (List ℕ)
 names_shape names = (raw_bytes names.0, option_map raw_bytes names.1)
 
+-- what a size and the two names say
+abbrev pub sized_names_shape : ℕ × (RawString × Option RawString)
+    → ℕ × (List ℕ × Option (List ℕ))
+sized_names_shape sized = (sized.0, names_shape sized.1)
+
 -- what the value of a class, struct or interface says
 abbrev pub class_form : ClassType → forms.ClassForm
 class_form t =

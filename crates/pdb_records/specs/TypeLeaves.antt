@@ -6,11 +6,11 @@ use Rattle.std.specs.Prelude.{if◌then◌else◌}
 use Rattle.std.specs.Int.{w8, w16}
 use Rattle.pdb_container.specs.Fault.{Fault, UnimplementedTypeKind, ◌>>=◌}
 use Rattle.pdb_container.specs.Fields.{Reader, number_at, bytes_of}
-use Rattle.pdb_indices.specs.declared.index.TypeIndex.{TypeIndex}
+use Rattle.pdb_container.specs.declared.index.TypeIndex.{TypeIndex}
 use Rattle.pdb_records.specs.declared.type_data.ClassKind.TheVariants as kinds
 use Rattle.pdb_records.specs.Forms as forms
 use Rattle.pdb_records.specs.Forms.{PlainForm, TypeForm}
-use Rattle.pdb_indices.specs.RecordFields.{type_index_at, as_value}
+use Rattle.pdb_container.specs.RecordFields.{type_index_at, as_value}
 use Rattle.pdb_records.specs.TypeRecords.{modifier_at, pointer_at, procedure_at, member_function_at}
 use Rattle.pdb_records.specs.TypeRecords.{bitfield_at, class_at, newer_struct_at, union_at}
 use Rattle.pdb_records.specs.TypeRecords.{enumeration_at, enumerate_at, member_at, static_member_at}

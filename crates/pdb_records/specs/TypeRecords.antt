@@ -8,7 +8,7 @@ use Rattle.std.specs.Int.{w8, w16, w32}
 use Rattle.pdb_container.specs.Fault.{UnexpectedEof, UnimplementedFeature, ◌>>=◌, refuse}
 use Rattle.pdb_container.specs.Container.{half_at, word_at}
 use Rattle.pdb_container.specs.Fields.{Reader, number_at, bytes_of, entries}
-use Rattle.pdb_indices.specs.declared.index.TypeIndex.{TypeIndex}
+use Rattle.pdb_container.specs.declared.index.TypeIndex.{TypeIndex}
 use Rattle.pdb_records.specs.declared.type_attributes.FieldAttributes.{FieldAttributes}
 use Rattle.pdb_records.specs.declared.type_attributes.PointerAttributes.{PointerAttributes}
 use Rattle.pdb_records.specs.declared.type_data.ClassKind.{ClassKind}
@@ -24,14 +24,15 @@ use Rattle.pdb_records.specs.declared.type_data.PointerType.{PointerType}
 use Rattle.pdb_records.specs.declared.type_data.ModifierType.{ModifierType}
 use Rattle.pdb_records.specs.declared.type_data.BitfieldType.{BitfieldType}
 use Rattle.pdb_records.specs.declared.type_data.MethodListEntry.{MethodListEntry}
-use Rattle.pdb_indices.specs.Bits.{has_bit}
+use Rattle.pdb_container.specs.Bits.{has_bit}
 use Rattle.pdb_records.specs.declared.type_attributes.TypeProperties.{TypeProperties}
 use Rattle.pdb_records.specs.Attributes.{introduces, is_known_pointer, is_to_member, names_unique}
 use Rattle.pdb_records.specs.Forms.{ClassForm, MemberForm, OverloadedMethodForm, MethodForm}
 use Rattle.pdb_records.specs.Forms.{StaticMemberForm, NestedForm, EnumerationForm, EnumerateForm}
 use Rattle.pdb_records.specs.Forms.{ArrayForm, UnionForm}
-use Rattle.pdb_indices.specs.RecordFields.{type_index_at, numeric_at, variant_at, name_at, as_value}
-use Rattle.pdb_indices.specs.RecordFields.{many_at}
+use Rattle.pdb_container.specs.RecordFields.{type_index_at, numeric_at, variant_at, name_at}
+use Rattle.pdb_container.specs.RecordFields.{as_value}
+use Rattle.pdb_container.specs.RecordFields.{many_at}
 
 -- ---- numbers that stand first
 

@@ -1,7 +1,6 @@
 //! What a record of an id says (`LF_FUNC_ID` to `LF_UDT_MOD_SRC_LINE`).
 
-use pdb_container::{RawString, StringRef};
-use pdb_indices::{IdIndex, TypeIndex};
+use pdb_container::{IdIndex, RawString, StringRef, TypeIndex};
 
 /// An id of the IPI: of a function, a text or a place in the source.
 #[derive(Debug, Drop)]

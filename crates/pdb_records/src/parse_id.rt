@@ -11,15 +11,17 @@ ghost use Rattle.pdb_records.specs.IdRecords.{module_source_in as module_source_
 ghost use Rattle.pdb_records.specs.IdRecords.{member_function_id_at, build_info_at, string_list_at};
 ghost use Rattle.pdb_records.specs.IdRecords.{string_at, source_at, module_source_at};
 ghost use Rattle.pdb_records.specs.IdRecords.{id_form_behind, id_form_of};
-ghost use Rattle.pdb_indices.specs.RecordFields.{GivesFront, as_value};
+ghost use Rattle.pdb_records.specs.Parsing.{ParsesIdForm, GivesIdForm};
 
 use crate::id_data::{
     BuildInfoId, FunctionId, IdData, MemberFunctionId, StringId, StringListId,
     UserDefinedTypeSourceFileRef, UserDefinedTypeSourceId,
 };
 use crate::leaves::*;
-use pdb_container::{Error, ParseBuffer, Result, StringRef, half_at, word_at};
-use pdb_indices::{IdIndex, TypeIndex, parse_many, parse_name};
+use pdb_container::{
+    Error, IdIndex, ParseBuffer, Result, StringRef, TypeIndex, half_at, parse_many, parse_name,
+    word_at,
+};
 use std::alloc::Global;
 
 /// The id that a number names: none for 0 and for 0xffff.
@@ -42,8 +44,7 @@ fn parse_two_words(buffer: &mut ParseBuffer<'_>) -> Result<(u32, u32)>
 
 #[tactic(auto, unfolding(crate::specs::IdRecords::function_id_at))]
 fn parse_function<'t>(buffer: &mut ParseBuffer<'t>, leaf: u16) -> Result<IdData<'t>>
-    ensures { ParsesFront id_shape result (rest buffer.new)
-        (as_value forms.Function (function_id_at leaf (rest buffer.old))) }
+    ensures { ParsesIdForm result buffer.old buffer.new forms.Function (function_id_at leaf) }
 {
     let (scope, function_type) = parse_two_words(buffer)?;
     let name = parse_name(buffer, leaf)?;
@@ -56,8 +57,8 @@ fn parse_function<'t>(buffer: &mut ParseBuffer<'t>, leaf: u16) -> Result<IdData<
 
 #[tactic(auto, unfolding(crate::specs::IdRecords::member_function_id_at))]
 fn parse_member_function<'t>(buffer: &mut ParseBuffer<'t>, leaf: u16) -> Result<IdData<'t>>
-    ensures { ParsesFront id_shape result (rest buffer.new)
-        (as_value forms.MemberFunction (member_function_id_at leaf (rest buffer.old))) }
+    ensures { ParsesIdForm result buffer.old buffer.new forms.MemberFunction
+        (member_function_id_at leaf) }
 {
     let (parent, function_type) = parse_two_words(buffer)?;
     let name = parse_name(buffer, leaf)?;
@@ -70,8 +71,7 @@ fn parse_member_function<'t>(buffer: &mut ParseBuffer<'t>, leaf: u16) -> Result<
 
 #[tactic(auto, unfolding(crate::specs::IdRecords::build_info_at))]
 fn parse_build_info<'t>(alloc: Global, buffer: &mut ParseBuffer<'t>) -> Result<IdData<'t>>
-    ensures { GivesFront id_shape result (rest buffer.new)
-        (as_value forms.BuildInfo (build_info_at (rest buffer.old))) }
+    ensures { GivesIdForm result buffer.old buffer.new forms.BuildInfo build_info_at }
 {
     let count = buffer.parse_u16()?;
     let arguments = parse_many::<IdIndex>(alloc, buffer, u32::from(count))?;
@@ -80,8 +80,7 @@ fn parse_build_info<'t>(alloc: Global, buffer: &mut ParseBuffer<'t>) -> Result<I
 
 #[tactic(auto, unfolding(crate::specs::IdRecords::string_list_at))]
 fn parse_string_list<'t>(alloc: Global, buffer: &mut ParseBuffer<'t>) -> Result<IdData<'t>>
-    ensures { GivesFront id_shape result (rest buffer.new)
-        (as_value forms.StringList (string_list_at (rest buffer.old))) }
+    ensures { GivesIdForm result buffer.old buffer.new forms.StringList string_list_at }
 {
     let count = buffer.parse_u32()?;
     let substrings = parse_many::<TypeIndex>(alloc, buffer, count)?;
@@ -90,8 +89,7 @@ fn parse_string_list<'t>(alloc: Global, buffer: &mut ParseBuffer<'t>) -> Result<
 
 #[tactic(auto, unfolding(crate::specs::IdRecords::string_at))]
 fn parse_string<'t>(buffer: &mut ParseBuffer<'t>, leaf: u16) -> Result<IdData<'t>>
-    ensures { ParsesFront id_shape result (rest buffer.new)
-        (as_value forms.String (string_at leaf (rest buffer.old))) }
+    ensures { ParsesIdForm result buffer.old buffer.new forms.String (string_at leaf) }
 {
     let substrings = buffer.parse_u32()?;
     let name = parse_name(buffer, leaf)?;
@@ -103,8 +101,7 @@ fn parse_string<'t>(buffer: &mut ParseBuffer<'t>, leaf: u16) -> Result<IdData<'t
 
 #[tactic(auto, unfolding(crate::specs::IdRecords::source_at))]
 fn parse_source<'t>(buffer: &mut ParseBuffer<'t>) -> Result<IdData<'t>>
-    ensures { ParsesFront id_shape result (rest buffer.new)
-        (as_value forms.UserDefinedTypeSource (source_at (rest buffer.old))) }
+    ensures { ParsesIdForm result buffer.old buffer.new forms.UserDefinedTypeSource source_at }
 {
     Ok(IdData::UserDefinedTypeSource(source_in(buffer.take(12)?)))
 }
@@ -123,8 +120,8 @@ fn source_in(bytes: &[u8]) -> UserDefinedTypeSourceId
 
 #[tactic(auto, unfolding(crate::specs::IdRecords::module_source_at))]
 fn parse_module_source<'t>(buffer: &mut ParseBuffer<'t>) -> Result<IdData<'t>>
-    ensures { ParsesFront id_shape result (rest buffer.new)
-        (as_value forms.UserDefinedTypeSource (module_source_at (rest buffer.old))) }
+    ensures { ParsesIdForm result buffer.old buffer.new forms.UserDefinedTypeSource
+        module_source_at }
 {
     let front = buffer.take(14)?;
     Ok(IdData::UserDefinedTypeSource(module_source_in(front)))

@@ -4,9 +4,10 @@ ghost use Rattle.std.specs.Prelude.{◌≡◌, ◌<◌, length, IfOk};
 ghost use Rattle.pdb_container.specs.Buffer.{rest, ParsesFront};
 ghost use Rattle.pdb_container.specs.Fault.{Gives};
 ghost use Rattle.pdb_container.specs.Fields.{entries};
-ghost use Rattle.pdb_indices.specs.RecordFields.{GivesFront, as_value};
+ghost use Rattle.pdb_container.specs.RecordFields.{GivesFront};
 ghost use Rattle.pdb_records.specs.Forms as forms;
 ghost use Rattle.pdb_records.specs.Forms.{Plain};
+ghost use Rattle.pdb_records.specs.Parsing.{GivesForm};
 ghost use Rattle.pdb_records.specs.Shapes.{shape, plain_shape};
 ghost use Rattle.pdb_records.specs.TypeRecords.{argument_list_at, method_list_entry_at};
 ghost use Rattle.pdb_records.specs.TypeRecords.{method_list_at, dimension_at, dimensions_at};
@@ -16,15 +17,15 @@ use crate::parse_member::parse_vtable_offset;
 use crate::parse_type::parse_two_types;
 use crate::type_attributes::FieldAttributes;
 use crate::type_data::{ArgumentList, ArrayType, MethodList, MethodListEntry, TypeData};
-use pdb_container::{Error, ParseBuffer, Result, half_at, word_at};
-use pdb_indices::{TypeIndex, parse_many, parse_numeric};
+use pdb_container::{
+    Error, ParseBuffer, Result, TypeIndex, half_at, parse_many, parse_numeric, word_at,
+};
 use std::alloc::Global;
 
 /// `LF_ARGLIST`, after its leaf. `UnexpectedEof`, `OutOfMemory`.
 #[tactic(auto, unfolding(crate::specs::TypeRecords::argument_list_at))]
 pub fn parse_argument_list<'t>(alloc: Global, buffer: &mut ParseBuffer<'t>) -> Result<TypeData<'t>>
-    ensures form { GivesFront plain_shape result (rest buffer.new)
-        (as_value forms.ArgumentList (argument_list_at (rest buffer.old))) }
+    ensures form { GivesForm result buffer.old buffer.new forms.ArgumentList argument_list_at }
     ensures plain { IfOk result (λ t. shape t ≡ Plain (plain_shape t)) }
 {
     let count = buffer.parse_u32()?;
@@ -65,8 +66,7 @@ fn parse_methods(alloc: Global, bytes: &[u8]) -> Result<Vec<MethodListEntry>>
 /// `LF_METHODLIST`, after its leaf. `UnexpectedEof`, `OutOfMemory`.
 #[tactic(auto, unfolding(crate::specs::TypeRecords::method_list_at))]
 pub fn parse_method_list<'t>(alloc: Global, buffer: &mut ParseBuffer<'t>) -> Result<TypeData<'t>>
-    ensures form { GivesFront plain_shape result (rest buffer.new)
-        (as_value forms.MethodList (method_list_at (rest buffer.old))) }
+    ensures form { GivesForm result buffer.old buffer.new forms.MethodList method_list_at }
     ensures plain { IfOk result (λ t. shape t ≡ Plain (plain_shape t)) }
 {
     let bytes = buffer.take(buffer.len())?;
@@ -124,8 +124,7 @@ pub fn parse_array<'t>(
     buffer: &mut ParseBuffer<'t>,
     is_strided: bool,
 ) -> Result<TypeData<'t>>
-    ensures form { GivesFront plain_shape result (rest buffer.new)
-        (as_value forms.Array (array_at is_strided (rest buffer.old))) }
+    ensures form { GivesForm result buffer.old buffer.new forms.Array (array_at is_strided) }
     ensures plain { IfOk result (λ t. shape t ≡ Plain (plain_shape t)) }
 {
     let (element_type, indexing_type) = parse_two_types(buffer)?;

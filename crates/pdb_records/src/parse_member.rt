@@ -3,14 +3,16 @@
 
 ghost use Rattle.std.specs.Prelude.{◌≡◌, IfOk};
 ghost use Rattle.pdb_container.specs.Buffer.{rest, ParsesFront};
-ghost use Rattle.pdb_indices.specs.RecordFields.{as_value};
 ghost use Rattle.pdb_records.specs.Forms as forms;
 ghost use Rattle.pdb_records.specs.Forms.{Plain};
+ghost use Rattle.pdb_records.specs.Parsing.{ParsesForm};
 ghost use Rattle.pdb_records.specs.Shapes.{shape, plain_shape};
 ghost use Rattle.pdb_records.specs.TypeRecords.{enumerate_at, member_at, static_member_at};
 ghost use Rattle.pdb_records.specs.TypeRecords.{overloaded_method_at, vtable_offset_at, method_at};
 ghost use Rattle.pdb_records.specs.TypeRecords.{nested_at, base_class_at, virtual_base_class_at};
-ghost use Rattle.pdb_records.specs.TypeRecords.{virtual_function_table_pointer_at};
+ghost use Rattle.pdb_records.specs.TypeRecords.{
+  virtual_function_table_pointer_at as table_pointer_at,
+};
 
 use crate::parse_type::parse_half_and_type;
 use crate::type_attributes::FieldAttributes;
@@ -19,14 +21,14 @@ use crate::type_data::{
     OverloadedMethodType, StaticMemberType, TypeData, VirtualBaseClassType,
     VirtualFunctionTablePointerType,
 };
-use pdb_container::{ParseBuffer, Result, half_at, word_at};
-use pdb_indices::{TypeIndex, parse_name, parse_numeric, parse_variant};
+use pdb_container::{
+    ParseBuffer, Result, TypeIndex, half_at, parse_name, parse_numeric, parse_variant, word_at,
+};
 
 /// `LF_ENUMERATE`: a value of an enumeration.
 #[tactic(auto, unfolding(crate::specs::TypeRecords::enumerate_at))]
 pub fn parse_enumerate<'t>(buffer: &mut ParseBuffer<'t>, leaf: u16) -> Result<TypeData<'t>>
-    ensures form { ParsesFront plain_shape result (rest buffer.new)
-        (as_value forms.Enumerate (enumerate_at leaf (rest buffer.old))) }
+    ensures form { ParsesForm result buffer.old buffer.new forms.Enumerate (enumerate_at leaf) }
     ensures plain { IfOk result (λ t. shape t ≡ Plain (plain_shape t)) }
 {
     let attributes = FieldAttributes::new(buffer.parse_u16()?);
@@ -42,8 +44,7 @@ pub fn parse_enumerate<'t>(buffer: &mut ParseBuffer<'t>, leaf: u16) -> Result<Ty
 /// `LF_MEMBER`: a data member.
 #[tactic(auto, unfolding(crate::specs::TypeRecords::member_at))]
 pub fn parse_data_member<'t>(buffer: &mut ParseBuffer<'t>, leaf: u16) -> Result<TypeData<'t>>
-    ensures form { ParsesFront plain_shape result (rest buffer.new)
-        (as_value forms.Member (member_at leaf (rest buffer.old))) }
+    ensures form { ParsesForm result buffer.old buffer.new forms.Member (member_at leaf) }
     ensures plain { IfOk result (λ t. shape t ≡ Plain (plain_shape t)) }
 {
     let (bits, field_type) = parse_half_and_type(buffer)?;
@@ -61,8 +62,8 @@ pub fn parse_data_member<'t>(buffer: &mut ParseBuffer<'t>, leaf: u16) -> Result<
 /// `LF_STMEMBER`: a static data member.
 #[tactic(auto, unfolding(crate::specs::TypeRecords::static_member_at))]
 pub fn parse_static_member<'t>(buffer: &mut ParseBuffer<'t>, leaf: u16) -> Result<TypeData<'t>>
-    ensures form { ParsesFront plain_shape result (rest buffer.new)
-        (as_value forms.StaticMember (static_member_at leaf (rest buffer.old))) }
+    ensures form { ParsesForm result buffer.old buffer.new forms.StaticMember
+        (static_member_at leaf) }
     ensures plain { IfOk result (λ t. shape t ≡ Plain (plain_shape t)) }
 {
     let (bits, field_type) = parse_half_and_type(buffer)?;
@@ -78,8 +79,8 @@ pub fn parse_static_member<'t>(buffer: &mut ParseBuffer<'t>, leaf: u16) -> Resul
 /// `LF_METHOD`: methods of one name.
 #[tactic(auto, unfolding(crate::specs::TypeRecords::overloaded_method_at))]
 pub fn parse_overloaded_method<'t>(buffer: &mut ParseBuffer<'t>, leaf: u16) -> Result<TypeData<'t>>
-    ensures form { ParsesFront plain_shape result (rest buffer.new)
-        (as_value forms.OverloadedMethod (overloaded_method_at leaf (rest buffer.old))) }
+    ensures form { ParsesForm result buffer.old buffer.new forms.OverloadedMethod
+        (overloaded_method_at leaf) }
     ensures plain { IfOk result (λ t. shape t ≡ Plain (plain_shape t)) }
 {
     let (count, method_list) = parse_half_and_type(buffer)?;
@@ -109,8 +110,7 @@ pub fn parse_vtable_offset(
 /// `LF_ONEMETHOD`: a method that is alone of its name.
 #[tactic(auto, unfolding(crate::specs::TypeRecords::method_at))]
 pub fn parse_method<'t>(buffer: &mut ParseBuffer<'t>, leaf: u16) -> Result<TypeData<'t>>
-    ensures form { ParsesFront plain_shape result (rest buffer.new)
-        (as_value forms.Method (method_at leaf (rest buffer.old))) }
+    ensures form { ParsesForm result buffer.old buffer.new forms.Method (method_at leaf) }
     ensures plain { IfOk result (λ t. shape t ≡ Plain (plain_shape t)) }
 {
     let (bits, method_type) = parse_half_and_type(buffer)?;
@@ -128,8 +128,7 @@ pub fn parse_method<'t>(buffer: &mut ParseBuffer<'t>, leaf: u16) -> Result<TypeD
 /// `LF_NESTTYPE`, `LF_NESTTYPEEX`: a nested type.
 #[tactic(auto, unfolding(crate::specs::TypeRecords::nested_at))]
 pub fn parse_nested<'t>(buffer: &mut ParseBuffer<'t>, leaf: u16) -> Result<TypeData<'t>>
-    ensures form { ParsesFront plain_shape result (rest buffer.new)
-        (as_value forms.Nested (nested_at leaf (rest buffer.old))) }
+    ensures form { ParsesForm result buffer.old buffer.new forms.Nested (nested_at leaf) }
     ensures plain { IfOk result (λ t. shape t ≡ Plain (plain_shape t)) }
 {
     let (bits, nested_type) = parse_half_and_type(buffer)?;
@@ -145,8 +144,7 @@ pub fn parse_nested<'t>(buffer: &mut ParseBuffer<'t>, leaf: u16) -> Result<TypeD
 /// `LF_BCLASS`, `LF_BINTERFACE`: a base class.
 #[tactic(auto, unfolding(crate::specs::TypeRecords::base_class_at))]
 pub fn parse_base_class<'t>(buffer: &mut ParseBuffer<'t>, kind: ClassKind) -> Result<TypeData<'t>>
-    ensures form { ParsesFront plain_shape result (rest buffer.new)
-        (as_value forms.BaseClass (base_class_at kind (rest buffer.old))) }
+    ensures form { ParsesForm result buffer.old buffer.new forms.BaseClass (base_class_at kind) }
     ensures plain { IfOk result (λ t. shape t ≡ Plain (plain_shape t)) }
 {
     let (bits, base_class) = parse_half_and_type(buffer)?;
@@ -166,8 +164,8 @@ pub fn parse_virtual_base_class<'t>(
     buffer: &mut ParseBuffer<'t>,
     direct: bool,
 ) -> Result<TypeData<'t>>
-    ensures form { ParsesFront plain_shape result (rest buffer.new)
-        (as_value forms.VirtualBaseClass (virtual_base_class_at direct (rest buffer.old))) }
+    ensures form { ParsesForm result buffer.old buffer.new forms.VirtualBaseClass
+        (virtual_base_class_at direct) }
     ensures plain { IfOk result (λ t. shape t ≡ Plain (plain_shape t)) }
 {
     let front = buffer.take(10)?;
@@ -188,9 +186,8 @@ pub fn parse_virtual_base_class<'t>(
 pub fn parse_virtual_function_table_pointer<'t>(
     buffer: &mut ParseBuffer<'t>,
 ) -> Result<TypeData<'t>>
-    ensures form { ParsesFront plain_shape result (rest buffer.new)
-        (as_value forms.VirtualFunctionTablePointer
-        (virtual_function_table_pointer_at (rest buffer.old))) }
+    ensures form { ParsesForm result buffer.old buffer.new forms.VirtualFunctionTablePointer
+        table_pointer_at }
     ensures plain { IfOk result (λ t. shape t ≡ Plain (plain_shape t)) }
 {
     let (_, table) = parse_half_and_type(buffer)?;

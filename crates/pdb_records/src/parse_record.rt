@@ -4,7 +4,7 @@ ghost use Rattle.std.specs.Prelude.{◌≡◌, IfOk};
 ghost use Rattle.pdb_container.specs.Buffer.{rest, ParsesFront};
 ghost use Rattle.pdb_container.specs.Fault.{Gives};
 ghost use Rattle.pdb_records.specs.Forms.{Plain};
-ghost use Rattle.pdb_indices.specs.RecordFields.{GivesFront};
+ghost use Rattle.pdb_container.specs.RecordFields.{GivesFront};
 ghost use Rattle.pdb_records.specs.Shapes.{shape, plain_shape, field_list_shape, field_form};
 ghost use Rattle.pdb_records.specs.TypeLeaves.{aggregate_at, type_at, base_at, plain_at};
 ghost use Rattle.pdb_records.specs.TypeLeaves.{continuation_at, field_behind, field_at};
@@ -22,8 +22,7 @@ use crate::parse_type::{
     parse_newer_struct, parse_pointer, parse_procedure, parse_union,
 };
 use crate::type_data::{ClassKind, FieldList, TypeData};
-use pdb_container::{Error, ParseBuffer, Result};
-use pdb_indices::TypeIndex;
+use pdb_container::{Error, ParseBuffer, Result, TypeIndex};
 use std::alloc::Global;
 
 /// A type with members. `UnimplementedTypeKind` at another leaf.

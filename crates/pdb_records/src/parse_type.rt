@@ -5,10 +5,10 @@
 ghost use Rattle.std.specs.Prelude.{◌≡◌, ◌≤◌, length, IfOk, option_map};
 ghost use Rattle.pdb_container.specs.Buffer.{rest, ParsesFront};
 ghost use Rattle.pdb_container.specs.RawString.{raw_bytes};
-ghost use Rattle.pdb_indices.specs.RecordFields.{as_value};
 ghost use Rattle.pdb_records.specs.Forms as forms;
 ghost use Rattle.pdb_records.specs.Forms.{Plain};
-ghost use Rattle.pdb_records.specs.Shapes.{shape, plain_shape, names_shape};
+ghost use Rattle.pdb_records.specs.Parsing.{ParsesForm, ParsesField};
+ghost use Rattle.pdb_records.specs.Shapes.{shape, plain_shape, names_shape, sized_names_shape};
 ghost use Rattle.pdb_records.specs.TypeRecords.{optional_type as type_or_none, half_and_type_at};
 ghost use Rattle.pdb_records.specs.TypeRecords.{two_types_at, modifier_in as modifier_of};
 ghost use Rattle.pdb_records.specs.TypeRecords.{procedure_in as procedure_of};
@@ -24,8 +24,9 @@ use crate::type_data::{
     BitfieldType, ClassKind, ClassType, EnumerationType, MemberFunctionType, ModifierType,
     PointerType, ProcedureType, TypeData, UnionType,
 };
-use pdb_container::{Error, ParseBuffer, RawString, Result, half_at, word_at};
-use pdb_indices::{TypeIndex, parse_name, parse_numeric};
+use pdb_container::{
+    Error, ParseBuffer, RawString, Result, TypeIndex, half_at, parse_name, parse_numeric, word_at,
+};
 
 /// The type that a number names: none for 0 and for 0xffff.
 fn optional_type(number: u32) -> Option<TypeIndex>
@@ -56,8 +57,7 @@ pub fn parse_two_types(buffer: &mut ParseBuffer<'_>) -> Result<(TypeIndex, TypeI
 /// `LF_MODIFIER`: a constant, volatile or unaligned type.
 #[tactic(auto, unfolding(crate::specs::TypeRecords::modifier_at))]
 pub fn parse_modifier<'t>(buffer: &mut ParseBuffer<'t>) -> Result<TypeData<'t>>
-    ensures form { ParsesFront plain_shape result (rest buffer.new)
-        (as_value forms.Modifier (modifier_at (rest buffer.old))) }
+    ensures form { ParsesForm result buffer.old buffer.new forms.Modifier modifier_at }
     ensures plain { IfOk result (λ t. shape t ≡ Plain (plain_shape t)) }
 {
     Ok(TypeData::Modifier(modifier_in(buffer.take(6)?)))
@@ -108,8 +108,7 @@ fn parse_containing_class(
 /// unknown.
 #[tactic(auto, unfolding(crate::specs::TypeRecords::pointer_at))]
 pub fn parse_pointer<'t>(buffer: &mut ParseBuffer<'t>) -> Result<TypeData<'t>>
-    ensures form { ParsesFront plain_shape result (rest buffer.new)
-        (as_value forms.Pointer (pointer_at (rest buffer.old))) }
+    ensures form { ParsesForm result buffer.old buffer.new forms.Pointer pointer_at }
     ensures plain { IfOk result (λ t. shape t ≡ Plain (plain_shape t)) }
 {
     let (underlying_type, attributes) = parse_pointer_front(buffer)?;
@@ -124,8 +123,7 @@ pub fn parse_pointer<'t>(buffer: &mut ParseBuffer<'t>) -> Result<TypeData<'t>>
 /// `LF_PROCEDURE`: the type of a function that is no method.
 #[tactic(auto, unfolding(crate::specs::TypeRecords::procedure_at))]
 pub fn parse_procedure<'t>(buffer: &mut ParseBuffer<'t>) -> Result<TypeData<'t>>
-    ensures form { ParsesFront plain_shape result (rest buffer.new)
-        (as_value forms.Procedure (procedure_at (rest buffer.old))) }
+    ensures form { ParsesForm result buffer.old buffer.new forms.Procedure procedure_at }
     ensures plain { IfOk result (λ t. shape t ≡ Plain (plain_shape t)) }
 {
     Ok(TypeData::Procedure(procedure_in(buffer.take(12)?)))
@@ -147,8 +145,7 @@ fn procedure_in(bytes: &[u8]) -> ProcedureType
 /// `LF_MFUNCTION`: the type of a method.
 #[tactic(auto, unfolding(crate::specs::TypeRecords::member_function_at))]
 pub fn parse_member_function<'t>(buffer: &mut ParseBuffer<'t>) -> Result<TypeData<'t>>
-    ensures form { ParsesFront plain_shape result (rest buffer.new)
-        (as_value forms.MemberFunction (member_function_at (rest buffer.old))) }
+    ensures form { ParsesForm result buffer.old buffer.new forms.MemberFunction member_function_at }
     ensures plain { IfOk result (λ t. shape t ≡ Plain (plain_shape t)) }
 {
     Ok(TypeData::MemberFunction(member_function_in(buffer.take(24)?)))
@@ -173,8 +170,7 @@ fn member_function_in(bytes: &[u8]) -> MemberFunctionType
 /// `LF_BITFIELD`: some bits of a number.
 #[tactic(auto, unfolding(crate::specs::TypeRecords::bitfield_at))]
 pub fn parse_bitfield<'t>(buffer: &mut ParseBuffer<'t>) -> Result<TypeData<'t>>
-    ensures form { ParsesFront plain_shape result (rest buffer.new)
-        (as_value forms.Bitfield (bitfield_at (rest buffer.old))) }
+    ensures form { ParsesForm result buffer.old buffer.new forms.Bitfield bitfield_at }
     ensures plain { IfOk result (λ t. shape t ≡ Plain (plain_shape t)) }
 {
     let front = buffer.take(6)?;
@@ -192,8 +188,8 @@ fn parse_unique_name<'t>(
     leaf: u16,
     properties: TypeProperties,
 ) -> Result<Option<RawString<'t>>>
-    ensures { ParsesFront (option_map raw_bytes) result (rest buffer.new)
-        (unique_name_at leaf properties (rest buffer.old)) }
+    ensures { ParsesField (option_map raw_bytes) result buffer.old buffer.new
+        (unique_name_at leaf properties) }
 {
     if !properties.has_unique_name() {
         return Ok(None);
@@ -223,8 +219,8 @@ fn parse_size_and_names<'t>(
     leaf: u16,
     properties: TypeProperties,
 ) -> Result<(u64, (RawString<'t>, Option<RawString<'t>>))>
-    ensures { ParsesFront (λ x. (x.0, names_shape x.1)) result (rest buffer.new)
-        (size_and_names_at leaf properties (rest buffer.old)) }
+    ensures { ParsesField sized_names_shape result buffer.old buffer.new
+        (size_and_names_at leaf properties) }
 {
     let size = parse_numeric(buffer)?;
     let names = parse_names(buffer, leaf, properties)?;
@@ -238,8 +234,7 @@ pub fn parse_class<'t>(
     leaf: u16,
     kind: ClassKind,
 ) -> Result<TypeData<'t>>
-    ensures form { ParsesFront plain_shape result (rest buffer.new)
-        (as_value forms.Class (class_at leaf kind (rest buffer.old))) }
+    ensures form { ParsesForm result buffer.old buffer.new forms.Class (class_at leaf kind) }
     ensures plain { IfOk result (λ t. shape t ≡ Plain (plain_shape t)) }
 {
     let front = buffer.take(16)?;
@@ -274,8 +269,7 @@ fn parse_field_count(buffer: &mut ParseBuffer<'_>) -> Result<u16>
 /// members.
 #[tactic(auto, unfolding(crate::specs::TypeRecords::newer_struct_at))]
 pub fn parse_newer_struct<'t>(buffer: &mut ParseBuffer<'t>, leaf: u16) -> Result<TypeData<'t>>
-    ensures form { ParsesFront plain_shape result (rest buffer.new)
-        (as_value forms.Class (newer_struct_at leaf (rest buffer.old))) }
+    ensures form { ParsesForm result buffer.old buffer.new forms.Class (newer_struct_at leaf) }
     ensures plain { IfOk result (λ t. shape t ≡ Plain (plain_shape t)) }
 {
     let front = buffer.take(16)?;
@@ -298,8 +292,7 @@ pub fn parse_newer_struct<'t>(buffer: &mut ParseBuffer<'t>, leaf: u16) -> Result
 /// `LF_UNION`, by its leaf.
 #[tactic(auto, unfolding(crate::specs::TypeRecords::union_at))]
 pub fn parse_union<'t>(buffer: &mut ParseBuffer<'t>, leaf: u16) -> Result<TypeData<'t>>
-    ensures form { ParsesFront plain_shape result (rest buffer.new)
-        (as_value forms.Union (union_at leaf (rest buffer.old))) }
+    ensures form { ParsesForm result buffer.old buffer.new forms.Union (union_at leaf) }
     ensures plain { IfOk result (λ t. shape t ≡ Plain (plain_shape t)) }
 {
     let front = buffer.take(8)?;
@@ -318,8 +311,7 @@ pub fn parse_union<'t>(buffer: &mut ParseBuffer<'t>, leaf: u16) -> Result<TypeDa
 /// `LF_ENUM`, by its leaf.
 #[tactic(auto, unfolding(crate::specs::TypeRecords::enumeration_at))]
 pub fn parse_enumeration<'t>(buffer: &mut ParseBuffer<'t>, leaf: u16) -> Result<TypeData<'t>>
-    ensures form { ParsesFront plain_shape result (rest buffer.new)
-        (as_value forms.Enumeration (enumeration_at leaf (rest buffer.old))) }
+    ensures form { ParsesForm result buffer.old buffer.new forms.Enumeration (enumeration_at leaf) }
     ensures plain { IfOk result (λ t. shape t ≡ Plain (plain_shape t)) }
 {
     let front = buffer.take(12)?;

@@ -9,8 +9,7 @@ ghost use Rattle.pdb_records.specs.Primitives.{primitive_of, type_of_primitive};
 ghost use Rattle.pdb_records.specs.Shapes.{shape};
 
 use crate::type_data::TypeData;
-use pdb_container::{Error, Result};
-use pdb_indices::TypeIndex;
+use pdb_container::{Error, Result, TypeIndex};
 
 /// A primitive type, which has no record, or a pointer to one.
 #[derive(Clone, Copy, Debug, PartialEq, Eq, Hash)]

@@ -6,8 +6,7 @@ use crate::primitive::PrimitiveType;
 use crate::type_attributes::{
     FieldAttributes, FunctionAttributes, PointerAttributes, TypeProperties,
 };
-use pdb_container::RawString;
-use pdb_indices::{TypeIndex, Variant};
+use pdb_container::{RawString, TypeIndex, Variant};
 
 /// A type of the TPI, or what stands in a list of a type's members.
 #[derive(Debug, Drop)]

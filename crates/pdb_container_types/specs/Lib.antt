@@ -1,0 +1,5 @@
+pub mod Item
+pub mod ItemType
+pub mod Items
+pub mod IteratorAndFinder
+pub mod KeptPlaces

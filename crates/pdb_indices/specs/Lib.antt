@@ -1,5 +1,0 @@
-pub mod Bits
-pub mod IdIndex
-pub mod Index
-pub mod RecordFields
-pub mod TypeIndex

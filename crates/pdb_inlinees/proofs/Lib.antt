@@ -1,3 +1,0 @@
-mod Entries
-mod OneMore
-mod Steps

@@ -1,7 +1,0 @@
--- Inlined functions, as the code stores them.
-use Rattle.pdb_inlinees.specs.Inlinees.{InlinedFunction}
-use Rattle.pdb_inlinees.specs.declared.inlinee.Inlinee.{Inlinee}
-
--- the code's inlinee, as the definitions see it
-abbrev pub inlined_function : Inlinee → InlinedFunction
-inlined_function i = record { index = i.index; file = i.file; line = i.line }
