@@ -6,10 +6,10 @@ use Rattle.std.specs.Option.{option_or}
 use Rattle.std.proofs.lemmas.Bool.{lt-leb, le-ltb}
 use Rattle.std.proofs.lemmas.List.{drop_all, length-take}
 use Rattle.pdb_container.specs.Fault.{Fault}
-use Rattle.pdb_indices.specs.declared.index.TypeIndex.{TypeIndex}
-use Rattle.pdb_items.specs.Items.{Table, items_of, item_or_end, item_number, found_or_fault}
-use Rattle.pdb_items.specs.Items.{item_at}
-use Rattle.pdb_items.specs.ItemType.{type_of_item}
+use Rattle.pdb_container.specs.declared.index.TypeIndex.{TypeIndex}
+use Rattle.pdb_container_types.specs.Items.{Table, items_of, item_or_end, item_number, found_or_fault}
+use Rattle.pdb_container_types.specs.Items.{item_at}
+use Rattle.pdb_container_types.specs.ItemType.{type_of_item}
 use Rattle.pdb_module_items.specs.Sizes.{defined_size, first_definition, records_from}
 
 -- ---- records of a table

@@ -8,13 +8,13 @@ use Rattle.std.proofs.lemmas.Bool.Decides.{eqb_tells}
 use Rattle.pdb_container.specs.Fault.{Fault, TypeNotFound, fault_of, IsOfBytes, Parses}
 use Rattle.pdb_container.specs.declared.error.Error.{Error}
 use Rattle.pdb_container.specs.Listing.{Listing}
-use Rattle.pdb_items.specs.Items.{Table, items_of, item_or_end, item_number, found_or_fault}
-use Rattle.pdb_items.specs.Items.{item_at}
-use Rattle.pdb_items.specs.IteratorAndFinder.{ItemIteration, Finding, fresh_iteration}
-use Rattle.pdb_items.specs.IteratorAndFinder.{fresh_finding, first_unknown, last_known, find_in}
-use Rattle.pdb_items.specs.IteratorAndFinder.{next_answer, iteration_behind, answer_in_progress}
-use Rattle.pdb_items.specs.IteratorAndFinder.{shown}
-use Rattle.pdb_items.specs.declared.item_iter.Progress.{Progress}
+use Rattle.pdb_container_types.specs.Items.{Table, items_of, item_or_end, item_number, found_or_fault}
+use Rattle.pdb_container_types.specs.Items.{item_at}
+use Rattle.pdb_container_types.specs.IteratorAndFinder.{ItemIteration, Finding, fresh_iteration}
+use Rattle.pdb_container_types.specs.IteratorAndFinder.{fresh_finding, first_unknown, last_known, find_in}
+use Rattle.pdb_container_types.specs.IteratorAndFinder.{next_answer, iteration_behind, answer_in_progress}
+use Rattle.pdb_container_types.specs.IteratorAndFinder.{shown}
+use Rattle.pdb_container_types.specs.declared.item_iter.Progress.{Progress}
 use Rattle.pdb_module_items.specs.declared.item_map.End.{End}
 use Rattle.pdb_module_items.specs.declared.item_map.End.TheVariants as ends
 use Rattle.pdb_module_items.specs.Ends.{IsShown, IsReached, IsKept}

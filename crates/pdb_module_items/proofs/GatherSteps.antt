@@ -12,9 +12,9 @@ use Rattle.std.specs.Ordering.{nat_cmp}
 use Rattle.std.proofs.lemmas.Bool.{leb-true, leb-false}
 use Rattle.std.proofs.lemmas.Map.Text.{btree_map_updates_str}
 use Rattle.pdb_container.specs.Fault as container_fault
-use Rattle.pdb_indices.specs.declared.index.TypeIndex.{TypeIndex}
-use Rattle.pdb_items.specs.Items.{Table, item_at, items_of}
-use Rattle.pdb_items.specs.ItemType.{type_of_item}
+use Rattle.pdb_container.specs.declared.index.TypeIndex.{TypeIndex}
+use Rattle.pdb_container_types.specs.Items.{Table, item_at, items_of}
+use Rattle.pdb_container_types.specs.ItemType.{type_of_item}
 use Rattle.pdb_records.specs.Forms.{TypeForm, Plain}
 use Rattle.pdb_records.specs.Forms as forms
 use Rattle.pdb_resolving.specs.Fault.{lifted}

@@ -6,7 +6,7 @@ use Rattle.std.proofs.lemmas.Option.{same_Some}
 use Rattle.std.specs.BTreeMap.{BTreeMap, IsUnchanged, Updates, get, is_at}
 use Rattle.std.specs.Map.{lookup}
 use Rattle.std.specs.Ordering.{nat_cmp}
-use Rattle.pdb_items.specs.Items.{Table}
+use Rattle.pdb_container_types.specs.Items.{Table}
 use Rattle.pdb_records.specs.Forms.{TypeForm}
 use Rattle.pdb_module_items.specs.KeptSizes.{AreSizes, IsSize}
 use Rattle.pdb_module_items.specs.Reading.{type_in}

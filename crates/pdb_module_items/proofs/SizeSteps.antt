@@ -1,8 +1,8 @@
 -- Sizes that lead from type to type.
 use Rattle.std.proofs.Common.{◌≡◌, ℕ, suc, ◌+◌, ◌-◌, ◌<◌, ◌≤◌, Result, refl, sym, ap, ◌∙◌, arith}
 use Rattle.pdb_container.specs.declared.error.Error.TheVariants as causes
-use Rattle.pdb_indices.specs.declared.index.TypeIndex.{TypeIndex}
-use Rattle.pdb_items.specs.Items.{Table}
+use Rattle.pdb_container.specs.declared.index.TypeIndex.{TypeIndex}
+use Rattle.pdb_container_types.specs.Items.{Table}
 use Rattle.pdb_resolving.specs.declared.error.Error.TheVariants as errors
 use Rattle.pdb_resolving.specs.declared.stop.Stop.{Stop}
 use Rattle.pdb_resolving.specs.declared.stop.Stop.TheVariants as stops

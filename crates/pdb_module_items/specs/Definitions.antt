@@ -1,14 +1,16 @@
 -- The definitions of classes and unions that a table has, as they are gathered from its end.
-use Rattle.std.specs.Prelude.{◌≡◌, ℕ, Bool, List, Option, None, Some, unwrap_or, Result, Ok, Err}
+use Rattle.std.specs.Prelude.{◌≡◌, ℕ, Bool, false, true, List, Option, None, Some, unwrap_or, Result, Ok, Err}
+use Rattle.std.specs.Option.{option_or}
 use Rattle.std.specs.Borrow.{Bor}
 use Rattle.std.specs.BTreeMap.{BTreeMap, get_by}
 use Rattle.std.specs.Cmp.Lexicographic.{slice_cmp}
 use Rattle.std.specs.Ordering.{nat_cmp}
 use Rattle.pdb_container.specs.Fault as container_fault
-use Rattle.pdb_items.specs.Items.{Table}
+use Rattle.pdb_container_types.specs.Items.{Table}
 use Rattle.pdb_records.specs.Attributes.{is_forward}
 use Rattle.pdb_records.specs.Forms.{TypeForm, Plain}
 use Rattle.pdb_records.specs.Forms as forms
+use Rattle.pdb_module_items.specs.KeptSizes.{IsSize}
 use Rattle.pdb_module_items.specs.Sizes.{first_definition, key_name, records_from, size_if_defined}
 
 -- a class or a union: whether it is defined elsewhere, the name by which it is looked for, and the
@@ -50,6 +52,20 @@ gathered definitions wanted = get_by (λ k. slice_cmp nat_cmp wanted k.now) defi
 -- the size of a forward reference: that which is stored under its name, or else its own
 abbrev pub reference_bytes : BTreeMap (Bor (List ℕ)) ℕ → Aggregate → ℕ
 reference_bytes definitions a = unwrap_or (gathered definitions a.name) a.size
+
+-- one more class or union was gathered, before the others of its name
+abbrev pub Gathers : BTreeMap (Bor (List ℕ)) ℕ → BTreeMap (Bor (List ℕ)) ℕ → Aggregate → Type 0
+Gathers old new a = (wanted : List ℕ)
+    → gathered new wanted ≡ option_or (aggregate_size_of wanted a) (gathered old wanted)
+
+-- a definition of a name and a size
+abbrev pub definition : List ℕ → ℕ → Aggregate
+definition name size = record { is_forward_reference = false; name = name; size = size }
+
+-- a forward reference has the size of the type at that index, by what is stored
+abbrev pub IsReferenceSize : Table → ℕ → BTreeMap (Bor (List ℕ)) ℕ → Aggregate → Type 0
+IsReferenceSize types index definitions a =
+    a.is_forward_reference ≡ true → IsSize types index (reference_bytes definitions a)
 
 -- What is stored under each name is the size by its first definition from an index on.
 pub record AreDefinitions (types : Table) (index : ℕ) (definitions : BTreeMap (Bor (List ℕ)) ℕ) :

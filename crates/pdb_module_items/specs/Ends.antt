@@ -1,10 +1,10 @@
 -- What is known of a table that is read on demand.
 use Rattle.std.specs.Prelude.{◌≡◌, ℕ, ◌-◌, ◌<◌, ◌≤◌, None, Ok, Err}
 use Rattle.pdb_container.specs.Fault.{TypeNotFound, fault_of, IsOfBytes}
-use Rattle.pdb_items.specs.Items.{Table, items_of, item_number, item_at}
-use Rattle.pdb_items.specs.IteratorAndFinder.{ItemIteration, Finding, first_unknown}
-use Rattle.pdb_items.specs.declared.item_iter.Progress.{Progress}
-use Rattle.pdb_items.specs.declared.item_iter.Progress.TheVariants as progress
+use Rattle.pdb_container_types.specs.Items.{Table, items_of, item_number, item_at}
+use Rattle.pdb_container_types.specs.IteratorAndFinder.{ItemIteration, Finding, first_unknown}
+use Rattle.pdb_container_types.specs.declared.item_iter.Progress.{Progress}
+use Rattle.pdb_container_types.specs.declared.item_iter.Progress.TheVariants as progress
 use Rattle.pdb_module_items.specs.declared.item_map.End.{End}
 use Rattle.pdb_module_items.specs.declared.item_map.End.TheVariants as ends
 

@@ -2,7 +2,7 @@
 use Rattle.std.specs.Prelude.{◌≡◌, ℕ, Bool, false, Some}
 use Rattle.std.specs.Ordering.{nat_cmp}
 use Rattle.std.specs.BTreeMap.{BTreeMap, get}
-use Rattle.pdb_items.specs.Items.{Table}
+use Rattle.pdb_container_types.specs.Items.{Table}
 use Rattle.pdb_records.specs.Attributes.{is_forward}
 use Rattle.pdb_records.specs.Forms.{TypeForm, Plain}
 use Rattle.pdb_records.specs.Forms as forms

@@ -1,11 +1,13 @@
 -- Types and ids by their indices as a module has them.
 use Rattle.std.specs.Prelude.{ℕ, Result}
 use Rattle.pdb_container.specs.Fault.{◌>>=◌}
-use Rattle.pdb_items.specs.Items.{Table, item_at}
-use Rattle.pdb_items.specs.ItemType.{type_of_item}
+use Rattle.pdb_container_types.specs.Items.{Table, item_at}
+use Rattle.pdb_container_types.specs.ItemType.{type_of_item}
 use Rattle.pdb_records.specs.Forms.{TypeForm}
 use Rattle.pdb_records.specs.IdForms.{IdForm}
 use Rattle.pdb_records.specs.IdRecords.{id_form_of}
+use Rattle.pdb_symbols_modules.specs.Dbi.{Dbi}
+use Rattle.pdb_symbols_modules.specs.Machine.{machine_of}
 use Rattle.pdb_symbols_modules.specs.declared.machine.MachineType.{MachineType}
 use Rattle.pdb_symbols_modules.specs.declared.machine.MachineType.TheVariants as machines
 use Rattle.pdb_resolving.specs.declared.table.Table.{Table as TableOfModule}
@@ -64,7 +66,17 @@ pub record Reading (P : Type 0) : Type 0 where
   pub ids : Table
   pub pointer_size : ℕ
 
+-- a reader of these modules and tables, for the machine of an image
+abbrev pub reading_for : {P : Type 0} → Dbi → Kept P → Table → Table → Reading P
+reading_for image modules types ids = record {
+  modules = modules;
+  types = types;
+  ids = ids;
+  pointer_size = pointer_bytes (machine_of image.machine);
+}
+
 -- those parts, by what the provider gives
+
 abbrev pub parts_by : {P : Type 0} → (P → Provided) → Reading P → Parts
 parts_by provided r =
     record {

@@ -1,13 +1,13 @@
 -- Sizes of types in bytes.
-use Rattle.std.specs.Prelude.{ℕ, zero, suc, ◌+◌, ◌-◌, ◌&&◌, not, Bool, List, [], ◌∷◌, length, take}
+use Rattle.std.specs.Prelude.{◌≡◌, ℕ, zero, suc, ◌+◌, ◌-◌, ◌&&◌, not, Bool, List, [], ◌∷◌, length, take}
 use Rattle.std.specs.Prelude.{drop, slice_get, max, Option, None, Some, unwrap_or, Result, Ok, Err}
 use Rattle.std.specs.Prelude.{if◌then◌else◌, bytes_eq}
 use Rattle.std.specs.Option.{option_or}
 use Rattle.pdb_container.specs.Fault as container_fault
-use Rattle.pdb_indices.specs.declared.variant.Variant.{Variant}
-use Rattle.pdb_indices.specs.declared.variant.Variant.TheVariants as variants
-use Rattle.pdb_items.specs.Items.{Table, items_of}
-use Rattle.pdb_items.specs.ItemType.{type_of_item}
+use Rattle.pdb_container.specs.declared.variant.Variant.{Variant}
+use Rattle.pdb_container.specs.declared.variant.Variant.TheVariants as variants
+use Rattle.pdb_container_types.specs.Items.{Table, items_of}
+use Rattle.pdb_container_types.specs.ItemType.{type_of_item}
 use Rattle.pdb_records.specs.Attributes.{is_forward, size_of_pointer}
 use Rattle.pdb_records.specs.Forms.{TypeForm, PlainForm, ClassForm, UnionForm, Plain, FieldList}
 use Rattle.pdb_records.specs.Forms as forms
@@ -126,6 +126,16 @@ aggregate_bytes types index is_forward_reference name size =
     if is_forward_reference then unwrap_or (definition_behind types index name) size
     else size
 
+-- the size of a class
+abbrev pub class_bytes : Table → ℕ → ClassForm → ℕ
+class_bytes types index t =
+    aggregate_bytes types index (is_forward t.properties) (key_name t.name t.unique_name) t.size
+
+-- the size of a union
+abbrev pub union_bytes : Table → ℕ → UnionForm → ℕ
+union_bytes types index t =
+    aggregate_bytes types index (is_forward t.properties) (key_name t.name t.unique_name) t.size
+
 -- ---- all types
 
 -- an array's last dimension, which is that of the whole array
@@ -152,10 +162,8 @@ form_bytes types pointer_size of index (Plain (forms.MemberFunction t)) = pointe
 form_bytes types pointer_size of index (Plain (forms.Procedure t)) = pointer_size
 form_bytes types pointer_size of index (Plain (forms.Pointer t)) = size_of_pointer t.attributes
 form_bytes types pointer_size of index (Plain (forms.Array t)) = last_dimension t.dimensions
-form_bytes types pointer_size of index (Plain (forms.Class t)) =
-    aggregate_bytes types index (is_forward t.properties) (key_name t.name t.unique_name) t.size
-form_bytes types pointer_size of index (Plain (forms.Union t)) =
-    aggregate_bytes types index (is_forward t.properties) (key_name t.name t.unique_name) t.size
+form_bytes types pointer_size of index (Plain (forms.Class t)) = class_bytes types index t
+form_bytes types pointer_size of index (Plain (forms.Union t)) = union_bytes types index t
 form_bytes types pointer_size of index (Plain (forms.Enumeration t)) = of (t.underlying_type).0
 form_bytes types pointer_size of index (Plain (forms.Modifier t)) = of (t.underlying_type).0
 form_bytes types pointer_size of index (Plain (forms.Enumerate t)) = variant_bytes t.value
@@ -190,3 +198,18 @@ size_at p asking index = size_within p asking 1024 index
 abbrev pub stated_bytes : (ℕ → ℕ) → Stated → ℕ
 stated_bytes of (stated.Bytes size) = size
 stated_bytes of (stated.SameAs index) = of index.0
+
+-- What is known of a size is that of a type's form, whatever the sizes of other types.
+abbrev pub StatesForm : Table → ℕ → ℕ → TypeForm → Stated → Type 0
+StatesForm types pointer_size index t s =
+    (of : ℕ → ℕ) → stated_bytes of s ≡ form_bytes types pointer_size of index t
+
+-- the same of the type with that index in the table
+abbrev pub StatesIn : Table → ℕ → ℕ → Stated → Type 0
+StatesIn types pointer_size index s = (of : ℕ → ℕ)
+    → stated_bytes of s ≡ read_bytes types pointer_size of index (type_in types index)
+
+-- the same of the type with that index as a module names it
+abbrev pub StatesAt : Parts → ℕ → ℕ → Stated → Type 0
+StatesAt p asking index s = (of : ℕ → ℕ)
+    → stated_bytes of s ≡ resolved_bytes p.types p.pointer_size of (resolve p.modules asking index)

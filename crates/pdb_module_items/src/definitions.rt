@@ -2,8 +2,8 @@
 
 ghost use Rattle.std.specs.Prelude.{◌≡◌, option_map, IfOk};
 ghost use Rattle.pdb_container.specs.RawString.{raw_bytes};
-ghost use Rattle.pdb_items.specs.Item.{item_bytes};
-ghost use Rattle.pdb_items.specs.ItemType.{type_of_item};
+ghost use Rattle.pdb_container_types.specs.Item.{item_bytes};
+ghost use Rattle.pdb_container_types.specs.ItemType.{type_of_item};
 ghost use Rattle.pdb_records.specs.Attributes.{is_forward};
 ghost use Rattle.pdb_records.specs.Shapes.{shape};
 ghost use Rattle.pdb_module_items.specs.KeptSizes.{is_reference};
@@ -14,9 +14,8 @@ ghost use Rattle.pdb_module_items.specs.Sizes.{definition_behind as definition_b
 ghost use Rattle.pdb_module_items.specs.Sizes.{aggregate_bytes};
 
 use crate::item_map::ItemMap;
-use pdb_container::{Error, RawString};
-use pdb_indices::TypeIndex;
-use pdb_items::Type;
+use pdb_container::{Error, RawString, TypeIndex};
+use pdb_container_types::Type;
 use pdb_records::{TypeData, TypeProperties};
 use std::alloc::{AllocError, Global};
 

@@ -2,15 +2,19 @@
 
 ghost use Rattle.std.specs.Prelude.{◌≡◌, ◌<◌, nat_lt, IfOk, IsOkUnless};
 ghost use Rattle.pdb_container.specs.Fault.{Parses};
-ghost use Rattle.pdb_items.specs.Item.{item_bytes};
-ghost use Rattle.pdb_items.specs.Items.{item_at};
-ghost use Rattle.pdb_items.specs.IteratorAndFinder.{first_unknown, last_known as last_known_index};
+ghost use Rattle.pdb_container_types.specs.Item.{item_bytes};
+ghost use Rattle.pdb_container_types.specs.Items.{item_at};
+ghost use Rattle.pdb_container_types.specs.IteratorAndFinder.{
+  first_unknown,
+  last_known as last_known_index,
+};
 ghost use Rattle.pdb_module_items.specs.Ends.{IsShown, IsReached};
 ghost use Rattle.pdb_module_items.specs.declared.item_map.End.TheVariants as ends;
 
-use pdb_container::{Error, FallibleIterator, Result};
-use pdb_indices::{IdIndex, ItemIndex, TypeIndex};
-use pdb_items::{IdInformation, Item, ItemFinder, ItemInformation, ItemIter, TypeInformation};
+use pdb_container::{Error, FallibleIterator, IdIndex, ItemIndex, Result, TypeIndex};
+use pdb_container_types::{
+    IdInformation, Item, ItemFinder, ItemInformation, ItemIter, TypeInformation,
+};
 use std::alloc::Global;
 use std::marker::Model;
 
@@ -37,7 +41,7 @@ pub struct ItemMap<'t, I> {
 }
 
 impl<'t, I> Model for ItemMap<'t, I> {
-    ghost use Rattle.pdb_items.specs.Items.{Table};
+    ghost use Rattle.pdb_container_types.specs.Items.{Table};
     ghost use Rattle.pdb_module_items.specs.Ends.{IsKept};
 
     ghost Value = { Table };

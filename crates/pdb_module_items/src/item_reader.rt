@@ -1,22 +1,22 @@
 //! Types and ids by their indices as a module has them.
 
-ghost use Rattle.std.specs.Prelude.{◌≡◌, ℕ, Ok, option_map, IfOk, IsOkUnless};
+ghost use Rattle.std.specs.Prelude.{◌≡◌, Ok, IfOk, IsOkUnless};
+ghost use Rattle.std.specs.Option.{option_copied};
 ghost use Rattle.pdb_container.specs.declared.error.Error.TheVariants as causes;
 ghost use Rattle.pdb_records.specs.IdForms.{id_shape};
 ghost use Rattle.pdb_records.specs.Shapes.{shape};
-ghost use Rattle.pdb_symbols_modules.specs.Machine.{machine_of};
 ghost use Rattle.pdb_resolving.specs.Cause.{Finds};
 ghost use Rattle.pdb_resolving.specs.Fault.{Answers};
-ghost use Rattle.pdb_resolving.specs.Resolving.{modules_by, none_failed, resolve};
+ghost use Rattle.pdb_resolving.specs.Resolving.{none_failed_of};
 ghost use Rattle.pdb_module_items.specs.Reading.{id_in, type_at, id_at, parts_by, pointer_bytes};
-ghost use Rattle.pdb_module_items.specs.Sizes.{resolved_bytes, size_at, stated_bytes};
+ghost use Rattle.pdb_module_items.specs.Reading.{reading_for};
+ghost use Rattle.pdb_module_items.specs.Sizes.{size_at, StatesAt};
 
 use crate::item_map::ItemMap;
 use crate::sizes::Stated;
 use crate::type_size_cache::TypeSizeCache;
-use pdb_container::StringTable;
-use pdb_indices::{IdIndex, TypeIndex};
-use pdb_items::{IdInformation, TypeInformation};
+use pdb_container::{IdIndex, StringTable, TypeIndex};
+use pdb_container_types::{IdInformation, TypeInformation};
 use pdb_records::{IdData, TypeData};
 use pdb_resolving::stop::{self, Stop};
 use pdb_resolving::{Error, ModuleProvider, Resolver, Result};
@@ -25,7 +25,7 @@ use std::alloc::{AllocError, Global};
 use std::marker::Model;
 
 /// How many types a size may lead through, the one that is asked for among them: as many as a path
-/// of a type's text has (`MAX_LENGTH` of `pdb_type_pieces`).
+/// of a type's text has (`MAX_LENGTH` of `pdb_type_printing`).
 const MOST_STEPS: u32 = 1024;
 
 /// Reads types and ids by their indices, as the modules of a database have them.
@@ -67,18 +67,9 @@ impl<'a, 's, P: ModuleProvider> ItemReader<'a, 's, P> {
         id_information: &'a IdInformation<'_>,
         string_table: Option<&'a StringTable<'s>>,
     ) -> pdb_container::Result<ItemReader<'a, 's, P>>
-        ensures parts { IfOk result (λ r. r ≡ record {
-          modules =
-              record {
-                provider = provider.now;
-                entries = modules.entry.items;
-                names = option_map (λ t. t.now) string_table.entry;
-                failed = none_failed;
-              };
-          types = type_information.now;
-          ids = id_information.now;
-          pointer_size = pointer_bytes (machine_of debug_information.now.machine);
-        }) }
+        ensures parts { IfOk result (λ r. r ≡ reading_for debug_information.now
+            (none_failed_of provider.now modules.entry.items (option_copied string_table.entry))
+            type_information.now id_information.now) }
         ensures memory { IsOkUnless result causes.OutOfMemory }
     {
         let types = TypeSizeCache::of(alloc, type_information)?;
@@ -164,9 +155,7 @@ impl<'a, 's, P: ModuleProvider> ItemReader<'a, 's, P> {
         index: TypeIndex,
     ) -> std::result::Result<Stated, AllocError>
         ensures same { self.new ≡ self.old }
-        ensures size { IfOk result (λ s. (of : ℕ → ℕ)
-            → stated_bytes of s ≡ resolved_bytes self.old.types self.old.pointer_size of
-            (resolve (modules_by P.provided self.old.modules) module_index index.0)) }
+        ensures size { IfOk result (StatesAt (parts_by P.provided self.old) module_index index.0) }
     {
         match self.resolver.resolve(alloc, module_index, index.0) {
             Ok(resolved) => self.types.stated(alloc, self.pointer_size, resolved),

@@ -1,23 +1,21 @@
 //! The sizes of all forward references of a table, by one pass over it from its end.
 
-ghost use Rattle.std.specs.Prelude.{◌≡◌, ◌+◌, ◌≤◌, ℕ, List, [], IfOk, OnOk, false, true};
-ghost use Rattle.std.specs.Option.{option_or};
-ghost use Rattle.pdb_items.specs.Item.{item_bytes};
-ghost use Rattle.pdb_items.specs.Items.{Table};
-ghost use Rattle.pdb_items.specs.ItemType.{type_of_item};
+ghost use Rattle.std.specs.Prelude.{◌≡◌, ◌+◌, ◌≤◌, [], IfOk, OnOk};
+ghost use Rattle.pdb_container_types.specs.Item.{item_bytes};
+ghost use Rattle.pdb_container_types.specs.Items.{Table};
+ghost use Rattle.pdb_container_types.specs.ItemType.{type_of_item};
 ghost use Rattle.pdb_records.specs.Shapes.{shape};
 ghost use Rattle.pdb_module_items.specs.Definitions.{AreDefinitions, aggregate_of as aggregate_in};
-ghost use Rattle.pdb_module_items.specs.Definitions.{aggregate_size_of, gathered};
+ghost use Rattle.pdb_module_items.specs.Definitions.{definition, Gathers, IsReferenceSize};
 ghost use Rattle.pdb_module_items.specs.Definitions.{read_aggregate as read_aggregate_by};
 ghost use Rattle.pdb_module_items.specs.Definitions.{reference_bytes};
 ghost use Rattle.pdb_module_items.specs.KeptSizes.{AreSizes, IsSize};
-ghost use Rattle.pdb_module_items.specs.Sizes.{records_from, size_if_defined};
+ghost use Rattle.pdb_module_items.specs.Sizes.{records_from};
 
 use crate::definitions::key_name;
 use crate::item_map::ItemMap;
-use pdb_container::{Error, RawString};
-use pdb_indices::TypeIndex;
-use pdb_items::Type;
+use pdb_container::{Error, RawString, TypeIndex};
+use pdb_container_types::Type;
 use pdb_records::TypeData;
 use std::alloc::{AllocError, Global};
 use std::collections::BTreeMap;
@@ -85,9 +83,7 @@ fn keep_definition<'t>(
     name: &'t [u8],
     size: u64,
 ) -> Result<(), AllocError>
-    ensures { OnOk result ((wanted : List ℕ) → gathered definitions.new wanted
-        ≡ option_or (size_if_defined wanted false name.now size)
-        (gathered definitions.old wanted)) }
+    ensures { OnOk result (Gathers definitions.old definitions.new (definition name.now size)) }
 {
     definitions.insert(name, size)?;
     Ok(())
@@ -121,11 +117,9 @@ fn keep_aggregate<'t>(
     index: u32,
     aggregate: Aggregate<'t>,
 ) -> Result<(), AllocError>
-    ensures definitions { OnOk result ((wanted : List ℕ) → gathered definitions.new wanted
-        ≡ option_or (aggregate_size_of wanted aggregate.entry) (gathered definitions.old wanted)) }
-    ensures sizes { (types : Table)
-        → (aggregate.entry.is_forward_reference ≡ true
-        → IsSize types index (reference_bytes definitions.old aggregate.entry))
+    ensures definitions { OnOk result
+        (Gathers definitions.old definitions.new aggregate.entry) }
+    ensures sizes { (types : Table) → IsReferenceSize types index definitions.old aggregate.entry
         → AreSizes types sizes.old → AreSizes types sizes.new }
 {
     if aggregate.is_forward_reference {

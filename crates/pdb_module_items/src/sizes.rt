@@ -1,21 +1,18 @@
 //! Sizes of types in bytes.
 
-ghost use Rattle.std.specs.Prelude.{◌≡◌, ℕ, Ok, IfOk};
-ghost use Rattle.pdb_records.specs.Attributes.{is_forward};
+ghost use Rattle.std.specs.Prelude.{◌≡◌, Ok, IfOk};
 ghost use Rattle.pdb_records.specs.Shapes.{shape, class_form, union_form};
 ghost use Rattle.pdb_resolving.specs.Fault.{Answers};
 ghost use Rattle.pdb_module_items.specs.KeptSizes.{AreSizes};
 ghost use Rattle.pdb_module_items.specs.Reading.{type_in};
 ghost use Rattle.pdb_module_items.specs.Sizes.{variant_bytes, last_dimension as last_dimension_of};
-ghost use Rattle.pdb_module_items.specs.Sizes.{key_name as key_name_of};
-ghost use Rattle.pdb_module_items.specs.Sizes.{aggregate_bytes, form_bytes};
-ghost use Rattle.pdb_module_items.specs.Sizes.{read_bytes, stated_bytes};
+ghost use Rattle.pdb_module_items.specs.Sizes.{class_bytes, union_bytes, StatesForm, StatesIn};
 
 use crate::definitions::{aggregate_size, is_forward_reference, key_name};
 use crate::item_map::ItemMap;
 use crate::primitives::primitive_size;
 use crate::references::update_forward_ref_size_map;
-use pdb_indices::{TypeIndex, Variant};
+use pdb_container::{TypeIndex, Variant};
 use pdb_records::{ClassType, TypeData, UnionType};
 use pdb_resolving::{Error, Result};
 use std::alloc::{AllocError, Global};
@@ -60,9 +57,8 @@ fn class_size(
     class_type: &ClassType<'_>,
 ) -> std::result::Result<u64, AllocError>
     ensures same { types.new ≡ types.old }
-    ensures size { let t = class_form class_type.now in
-        IfOk result (λ n. n ≡ aggregate_bytes types.old index (is_forward t.properties)
-        (key_name_of t.name t.unique_name) t.size) }
+    ensures size { IfOk result
+        (λ n. n ≡ class_bytes types.old index (class_form class_type.now)) }
 {
     let is_forward_reference = class_type.properties.forward_reference();
     let name = key_name(class_type.name, class_type.unique_name);
@@ -84,9 +80,8 @@ fn union_size(
     union_type: &UnionType<'_>,
 ) -> std::result::Result<u64, AllocError>
     ensures same { types.new ≡ types.old }
-    ensures size { let t = union_form union_type.now in
-        IfOk result (λ n. n ≡ aggregate_bytes types.old index (is_forward t.properties)
-        (key_name_of t.name t.unique_name) t.size) }
+    ensures size { IfOk result
+        (λ n. n ≡ union_bytes types.old index (union_form union_type.now)) }
 {
     let is_forward_reference = union_type.properties.forward_reference();
     let name = key_name(union_type.name, union_type.unique_name);
@@ -110,8 +105,8 @@ fn stated_size(
     type_data: &TypeData<'_>,
 ) -> std::result::Result<Stated, AllocError>
     ensures same { types.new ≡ types.old }
-    ensures size { IfOk result (λ s. (of : ℕ → ℕ)
-        → stated_bytes of s ≡ form_bytes types.old pointer_size of index (shape type_data.now)) }
+    ensures size { IfOk result
+        (StatesForm types.old pointer_size index (shape type_data.now)) }
 {
     match type_data {
         TypeData::Primitive(t) => Ok(Stated::Bytes(primitive_size(pointer_size, *t))),
@@ -157,8 +152,8 @@ fn stated_and_kept(
     requires read { type_in types.old index ≡ Ok (shape type_data.now) }
     ensures same { types.new ≡ types.old }
     ensures kept { AreSizes types.old sizes.new }
-    ensures size { IfOk result (λ s. (of : ℕ → ℕ)
-        → stated_bytes of s ≡ form_bytes types.old pointer_size of index (shape type_data.now)) }
+    ensures size { IfOk result
+        (StatesForm types.old pointer_size index (shape type_data.now)) }
 {
     if !is_forward_reference(type_data) {
         return stated_size(alloc, types, pointer_size, index, type_data);
@@ -182,8 +177,7 @@ fn read_stated(
     requires { AreSizes types.old sizes.old }
     ensures same { types.new ≡ types.old }
     ensures kept { AreSizes types.old sizes.new }
-    ensures size { IfOk result (λ s. (of : ℕ → ℕ) → stated_bytes of s
-        ≡ read_bytes types.old pointer_size of index (type_in types.old index)) }
+    ensures size { IfOk result (StatesIn types.old pointer_size index) }
 {
     match read_type_in(alloc, types, index) {
         Ok(type_data) => stated_and_kept(alloc, types, sizes, pointer_size, index, &type_data),
@@ -204,8 +198,7 @@ pub(crate) fn stated_in(
     requires { AreSizes types.old sizes.old }
     ensures same { types.new ≡ types.old }
     ensures kept { AreSizes types.old sizes.new }
-    ensures size { IfOk result (λ s. (of : ℕ → ℕ) → stated_bytes of s
-        ≡ read_bytes types.old pointer_size of index (type_in types.old index)) }
+    ensures size { IfOk result (StatesIn types.old pointer_size index) }
 {
     if let Some(size) = sizes.get(&index) {
         return Ok(Stated::Bytes(*size));

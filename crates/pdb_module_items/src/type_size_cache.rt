@@ -1,16 +1,16 @@
 //! Types by their indices with the sizes of forward references.
 
-ghost use Rattle.std.specs.Prelude.{◌≡◌, ℕ, IfOk, IsOkUnless};
+ghost use Rattle.std.specs.Prelude.{◌≡◌, IfOk, IsOkUnless};
 ghost use Rattle.pdb_container.specs.declared.error.Error.TheVariants as causes;
 ghost use Rattle.pdb_records.specs.Shapes.{shape};
 ghost use Rattle.pdb_resolving.specs.Fault.{Answers};
 ghost use Rattle.pdb_module_items.specs.Reading.{type_in};
-ghost use Rattle.pdb_module_items.specs.Sizes.{read_bytes, stated_bytes};
+ghost use Rattle.pdb_module_items.specs.Sizes.{StatesIn};
 
 use crate::item_map::ItemMap;
 use crate::sizes::{Stated, read_type_in, stated_in};
-use pdb_indices::TypeIndex;
-use pdb_items::TypeInformation;
+use pdb_container::TypeIndex;
+use pdb_container_types::TypeInformation;
 use pdb_records::TypeData;
 use pdb_resolving::Result;
 use std::alloc::{AllocError, Global};
@@ -27,7 +27,7 @@ pub(crate) struct TypeSizeCache<'t> {
 }
 
 impl<'t> Model for TypeSizeCache<'t> {
-    ghost use Rattle.pdb_items.specs.Items.{Table};
+    ghost use Rattle.pdb_container_types.specs.Items.{Table};
     ghost use Rattle.pdb_module_items.specs.KeptSizes.{AreSizes};
 
     ghost Value = { Table };
@@ -70,8 +70,7 @@ impl<'t> TypeSizeCache<'t> {
         index: u32,
     ) -> std::result::Result<Stated, AllocError>
         ensures same { self.new ≡ self.old }
-        ensures size { IfOk result (λ s. (of : ℕ → ℕ) → stated_bytes of s
-            ≡ read_bytes self.old pointer_size of index (type_in self.old index)) }
+        ensures size { IfOk result (StatesIn self.old pointer_size index) }
     {
         stated_in(alloc, &mut self.types, &mut self.sizes, pointer_size, index)
     }

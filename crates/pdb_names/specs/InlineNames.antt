@@ -2,8 +2,8 @@
 use Rattle.std.specs.Prelude.{◌≡◌, ℕ, List, Option, Some, option_map}
 use Rattle.std.specs.Arc.{arc_str_bytes}
 use Rattle.pdb_resolving.specs.Resolving.{Provided}
-use Rattle.pdb_type_text.specs.Printing.{Formatting, env_of}
-use Rattle.pdb_type_text.specs.Ids.{id_text}
+use Rattle.pdb_type_printing.specs.Printing.{Formatting, env_of}
+use Rattle.pdb_names.specs.Ids.{id_text}
 use Rattle.pdb_names.specs.ByModule.{kept_at}
 use Rattle.pdb_names.specs.StoredNames.{if_made}
 use Rattle.pdb_names.specs.declared.inline_names.InlineNames.{InlineNames}

@@ -5,8 +5,8 @@ use Rattle.std.specs.Str.Lossy.{utf8_lossy}
 use Rattle.pdb_container.specs.RawString.{raw_bytes}
 use Rattle.pdb_module_data.specs.Procedures.{Procedure}
 use Rattle.pdb_resolving.specs.Resolving.{Provided}
-use Rattle.pdb_type_text.specs.Printing.{Formatting, env_of}
-use Rattle.pdb_type_text.specs.Functions.{function_text}
+use Rattle.pdb_type_printing.specs.Printing.{Formatting, env_of}
+use Rattle.pdb_names.specs.Functions.{function_text}
 use Rattle.pdb_names.specs.ByNumber.{kept_at}
 use Rattle.pdb_names.specs.StoredNames.{if_made}
 use Rattle.pdb_names.specs.declared.typed_names.TypedName.{TypedName}

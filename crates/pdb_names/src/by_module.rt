@@ -38,7 +38,7 @@ impl<V: Drop> ByModule<V> {
 
     /// Makes a place for the values of the module at `module_index`, and for those of each module
     /// before it. What is cached stays.
-    fn reach(&mut self, alloc: Global, module_index: u16) -> Result<(), AllocError>
+    fn make_maps(&mut self, alloc: Global, module_index: u16) -> Result<(), AllocError>
         ensures reached { OnOk result (module_index < length self.new.modules.items) }
         ensures same { IsSameKept (kept_at self.old) (kept_at self.new) }
     {
@@ -64,7 +64,7 @@ impl<V: Drop> ByModule<V> {
             (IsKept (kept_at self.old) (kept_at self.new) module_index number value) }
         ensures failed { OnErr result (IsSameKept (kept_at self.old) (kept_at self.new)) }
     {
-        self.reach(alloc, module_index)?;
+        self.make_maps(alloc, module_index)?;
         self.modules[usize::from(module_index)].insert(number, value)?;
         Ok(())
     }

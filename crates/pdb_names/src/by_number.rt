@@ -28,7 +28,11 @@ fn make_places<V: Drop>(places: &mut Vec<Option<V>>, number: usize) -> Result<()
 
 /// Puts a value at a number, in place of any that was there, and returns how many places were made
 /// for it. When memory runs out, what is cached stays as it was.
-fn put<V: Drop>(places: &mut Vec<Option<V>>, number: usize, value: V) -> Result<usize, AllocError>
+fn put_at<V: Drop>(
+    places: &mut Vec<Option<V>>,
+    number: usize,
+    value: V,
+) -> Result<usize, AllocError>
     ensures kept { OnOk result (IsPut places.old.items places.new.items number value) }
     ensures failed { OnErr result (IsSamePlaces places.old.items places.new.items) }
 {
@@ -61,7 +65,7 @@ impl<V: Drop> ByNumber<V> {
 
     /// Makes a place for the values of the module at `module_index`, and for those of each module
     /// before it. What is cached stays.
-    fn reach(&mut self, alloc: Global, module_index: u16) -> Result<(), AllocError>
+    fn make_lists(&mut self, alloc: Global, module_index: u16) -> Result<(), AllocError>
         ensures reached { OnOk result (module_index < length self.new.modules.items) }
         ensures same { IsSameKept (kept_at self.old) (kept_at self.new) }
     {
@@ -87,7 +91,7 @@ impl<V: Drop> ByNumber<V> {
             (IsKept (kept_at self.old) (kept_at self.new) module_index number value) }
         ensures failed { OnErr result (IsSameKept (kept_at self.old) (kept_at self.new)) }
     {
-        self.reach(alloc, module_index)?;
-        put(&mut self.modules[usize::from(module_index)], number, value)
+        self.make_lists(alloc, module_index)?;
+        put_at(&mut self.modules[usize::from(module_index)], number, value)
     }
 }

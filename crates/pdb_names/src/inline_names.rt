@@ -1,14 +1,15 @@
 //! The names of inlined functions that were asked for.
 
-ghost use Rattle.std.specs.Prelude.{◌≡◌, ℕ, IfOk, List, Option, option_map};
+ghost use Rattle.std.specs.Prelude.{◌≡◌, ℕ, List, Option};
 ghost use Rattle.std.specs.Arc.{arc_str_bytes};
 ghost use Rattle.pdb_names.specs.InlineNames.{AreNames, inline_text};
+ghost use Rattle.pdb_names.specs.StoredNames.{Names};
 
 use crate::by_module::ByModule;
+use crate::formatter::TypeFormatter;
 use crate::names::{CACHED_NAMES, inlinee_name, name_size, share_name, shared_name};
-use pdb_indices::IdIndex;
+use pdb_container::IdIndex;
 use pdb_resolving::ModuleProvider;
-use pdb_type_text::TypeFormatter;
 use std::alloc::{AllocError, Global};
 use std::sync::ArcStr;
 
@@ -40,7 +41,7 @@ impl InlineNames {
     }
 
     /// Forgets all names where they take more memory than they may.
-    fn forget_if_full(&mut self, alloc: Global)
+    fn forget_inline_names_if_full(&mut self, alloc: Global)
         ensures { (text : ℕ → ℕ → Option (List ℕ))
             → AreNames text self.old → AreNames text self.new }
     {
@@ -56,7 +57,7 @@ impl InlineNames {
     ///
     /// # Errors
     /// `AllocError` when memory runs out. Nothing is cached then.
-    pub fn name<P: ModuleProvider>(
+    pub fn name_of_inlinee<P: ModuleProvider>(
         &mut self,
         alloc: Global,
         formatter: &mut TypeFormatter<'_, '_, P>,
@@ -66,8 +67,8 @@ impl InlineNames {
         requires { AreNames (inline_text P.provided formatter.old) self.old }
         ensures kept { AreNames (inline_text P.provided formatter.old) self.new }
         ensures same { formatter.new ≡ formatter.old }
-        ensures name { IfOk result (λ n. option_map arc_str_bytes n
-            ≡ inline_text P.provided formatter.old module_index inlinee.0) }
+        ensures name { Names arc_str_bytes result
+            (inline_text P.provided formatter.old module_index inlinee.0) }
     {
         if let Some(name) = self.by_id.get(module_index, inlinee.0) {
             return share_name(name);
@@ -75,7 +76,7 @@ impl InlineNames {
         let name = inlinee_name(alloc, formatter, usize::from(module_index), inlinee)?;
         let name = shared_name(alloc, &name)?;
         let kept = share_name(&name)?;
-        self.forget_if_full(alloc);
+        self.forget_inline_names_if_full(alloc);
         self.by_id.insert(alloc, module_index, inlinee.0, kept)?;
         let size = name_size(&name, PLACE_SIZE);
         self.cached = self.cached.saturating_add(size);

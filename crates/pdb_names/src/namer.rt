@@ -1,20 +1,19 @@
 //! What names functions.
 
-ghost use Rattle.std.specs.Prelude.{◌≡◌, IfOk, option_map};
+ghost use Rattle.std.specs.Prelude.{◌≡◌};
 ghost use Rattle.std.specs.Arc.{arc_str_bytes};
 ghost use Rattle.pdb_names.specs.InlineNames.{inline_text};
 ghost use Rattle.pdb_names.specs.MaybeOwned.{value_of};
-ghost use Rattle.pdb_names.specs.StoredNames.{typed_name};
-ghost use Rattle.pdb_type_text.specs.Printing.{env_of};
+ghost use Rattle.pdb_names.specs.StoredNames.{Names, procedure_text};
 
+use crate::formatter::TypeFormatter;
 use crate::inline_names::InlineNames;
 use crate::maybe_owned::MaybeOwned;
 use crate::typed_names::TypedNames;
-use pdb_indices::IdIndex;
+use pdb_container::IdIndex;
 use pdb_module_data::Procedure;
 use pdb_resolving::ModuleProvider;
 use pdb_symbols_modules::Module;
-use pdb_type_text::TypeFormatter;
 use std::alloc::{AllocError, Global};
 use std::marker::Model;
 use std::sync::ArcStr;
@@ -33,7 +32,7 @@ impl<'a, 's, P: ModuleProvider> Model for Namer<'a, 's, P> {
     ghost use Rattle.pdb_names.specs.InlineNames.{AreNames, inline_text};
     ghost use Rattle.pdb_names.specs.MaybeOwned.{value_of};
     ghost use Rattle.pdb_names.specs.TypedNames.{AreTyped, typed_text};
-    ghost use Rattle.pdb_type_text.specs.Printing.{Formatting};
+    ghost use Rattle.pdb_type_printing.specs.Printing.{Formatting};
 
     ghost Value = { Formatting P };
 
@@ -91,11 +90,11 @@ impl<'a, 's, P: ModuleProvider> Namer<'a, 's, P> {
         inlinee: IdIndex,
     ) -> Result<Option<ArcStr>, AllocError>
         ensures same { self.new ≡ self.old }
-        ensures name { IfOk result (λ n. option_map arc_str_bytes n
-            ≡ inline_text P.provided self.old module_index inlinee.0) }
+        ensures name { Names arc_str_bytes result
+            (inline_text P.provided self.old module_index inlinee.0) }
     {
         self.inlined
-            .name(alloc, self.formatter.get_mut(), module_index, inlinee)
+            .name_of_inlinee(alloc, self.formatter.get_mut(), module_index, inlinee)
     }
 
     /// The name of a procedure by its type in the module at `module_index`, cached at the
@@ -111,10 +110,10 @@ impl<'a, 's, P: ModuleProvider> Namer<'a, 's, P> {
         procedure: &Procedure<'a>,
     ) -> Result<Option<ArcStr>, AllocError>
         ensures same { self.new ≡ self.old }
-        ensures name { IfOk result (λ n. option_map arc_str_bytes n
-            ≡ typed_name (env_of P.provided self.old module_index) procedure.now) }
+        ensures name { Names arc_str_bytes result
+            (procedure_text P.provided self.old module_index procedure.now) }
     {
-        self.typed.name(
+        self.typed.name_of_procedure(
             alloc,
             self.formatter.get_mut(),
             module_index,

@@ -5,15 +5,14 @@ ghost use Rattle.std.specs.Cow.{cow_str_bytes};
 ghost use Rattle.std.specs.Arc.{arc_str_bytes};
 ghost use Rattle.std.specs.Str.Lossy.{utf8_lossy};
 ghost use Rattle.pdb_container.specs.RawString.{raw_bytes};
-ghost use Rattle.pdb_names.specs.StoredNames.{typed_name as name_by_type, if_made, IsText};
-ghost use Rattle.pdb_type_text.specs.Printing.{env_of};
-ghost use Rattle.pdb_type_text.specs.Ids.{id_text};
+ghost use Rattle.pdb_names.specs.InlineNames.{inline_text};
+ghost use Rattle.pdb_names.specs.StoredNames.{IsText, Names, procedure_text};
 
-use pdb_container::RawString;
-use pdb_indices::IdIndex;
+use crate::formatter::TypeFormatter;
+use crate::texts::{function_text_of, id_text_of};
+use pdb_container::{IdIndex, RawString};
 use pdb_module_data::Procedure;
 use pdb_resolving::{Error, ModuleProvider, Result};
-use pdb_type_text::{TypeFormatter, function_text_of, id_text_of};
 use std::alloc::{AllocError, Global};
 use std::borrow::CowStr;
 use std::sync::ArcStr;
@@ -51,8 +50,8 @@ pub fn inlinee_name<P: ModuleProvider>(
     inlinee: IdIndex,
 ) -> std::result::Result<Option<String>, AllocError>
     ensures same { formatter.new ≡ formatter.old }
-    ensures name { IfOk result (λ n. option_map string_bytes n
-        ≡ if_made (id_text (env_of P.provided formatter.old module_index) inlinee.0)) }
+    ensures name { Names string_bytes result
+        (inline_text P.provided formatter.old module_index inlinee.0) }
 {
     let made = id_text_of(formatter, alloc, module_index, inlinee);
     if_text(made)
@@ -62,15 +61,15 @@ pub fn inlinee_name<P: ModuleProvider>(
 ///
 /// # Errors
 /// `AllocError` when memory runs out.
-pub fn typed_name<P: ModuleProvider>(
+pub fn name_by_type<P: ModuleProvider>(
     alloc: Global,
     formatter: &mut TypeFormatter<'_, '_, P>,
     module_index: usize,
     procedure: &Procedure<'_>,
 ) -> std::result::Result<Option<String>, AllocError>
     ensures same { formatter.new ≡ formatter.old }
-    ensures name { IfOk result (λ n. option_map string_bytes n
-        ≡ name_by_type (env_of P.provided formatter.old module_index) procedure.now) }
+    ensures name { Names string_bytes result
+        (procedure_text P.provided formatter.old module_index procedure.now) }
 {
     let name = raw_text(alloc, &procedure.name)?;
     let made = function_text_of(
@@ -91,8 +90,7 @@ pub fn if_named(
     alloc: Global,
     name: &Option<RawString<'_>>,
 ) -> std::result::Result<Option<ArcStr>, AllocError>
-    ensures { IfOk result (λ n. option_map arc_str_bytes n
-        ≡ option_map (λ r. utf8_lossy (raw_bytes r)) name.now) }
+    ensures { Names arc_str_bytes result (option_map (λ r. utf8_lossy (raw_bytes r)) name.now) }
 {
     match name {
         None => Ok(None),
@@ -125,7 +123,7 @@ pub fn shared_name(
     alloc: Global,
     name: &Option<String>,
 ) -> std::result::Result<Option<ArcStr>, AllocError>
-    ensures { IfOk result (λ n. option_map arc_str_bytes n ≡ option_map string_bytes name.now) }
+    ensures { Names arc_str_bytes result (option_map string_bytes name.now) }
 {
     match name {
         None => Ok(None),
@@ -155,7 +153,7 @@ pub fn name_size(name: &Option<ArcStr>, place: usize) -> u64 {
 /// # Errors
 /// `AllocError` when memory runs out.
 pub fn share_name(name: &Option<ArcStr>) -> std::result::Result<Option<ArcStr>, AllocError>
-    ensures { IfOk result (λ n. option_map arc_str_bytes n ≡ option_map arc_str_bytes name.now) }
+    ensures { Names arc_str_bytes result (option_map arc_str_bytes name.now) }
 {
     match name {
         None => Ok(None),

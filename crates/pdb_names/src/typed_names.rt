@@ -1,18 +1,16 @@
 //! The names of procedures that were asked for.
 
-ghost use Rattle.std.specs.Prelude.{◌≡◌, ◌↔◌, ℕ, true, IfOk, List, Option, option_map};
+ghost use Rattle.std.specs.Prelude.{◌≡◌, ◌↔◌, ℕ, true, List, Option};
 ghost use Rattle.std.specs.Arc.{arc_str_bytes};
-ghost use Rattle.pdb_names.specs.StoredNames.{typed_name as name_by_type};
+ghost use Rattle.pdb_names.specs.StoredNames.{Names, procedure_text};
 ghost use Rattle.pdb_names.specs.TypedNames.{AreTyped, IsNamedBy, typed_text};
-ghost use Rattle.pdb_type_text.specs.Printing.{env_of};
 
 use crate::by_number::ByNumber;
-use crate::names::{CACHED_NAMES, name_size, share_name, shared_name, typed_name};
-use pdb_container::RawString;
-use pdb_indices::TypeIndex;
+use crate::formatter::TypeFormatter;
+use crate::names::{CACHED_NAMES, name_by_type, name_size, share_name, shared_name};
+use pdb_container::{RawString, TypeIndex};
 use pdb_module_data::Procedure;
 use pdb_resolving::ModuleProvider;
-use pdb_type_text::TypeFormatter;
 use std::alloc::{AllocError, Global};
 use std::sync::ArcStr;
 
@@ -29,7 +27,7 @@ pub struct TypedName<'a> {
 
 impl<'a> TypedName<'a> {
     /// Whether it was made of the name and the type of a procedure.
-    fn is_of(&self, procedure: &Procedure<'_>) -> bool
+    fn is_name_of(&self, procedure: &Procedure<'_>) -> bool
         ensures { (result ≡ true) ↔ IsNamedBy procedure.now self.now }
     {
         self.type_index == procedure.type_index && self.raw.as_bytes() == procedure.name.as_bytes()
@@ -61,7 +59,7 @@ impl<'a> TypedNames<'a> {
     }
 
     /// Forgets all names where they take more memory than they may.
-    fn forget_if_full(&mut self, alloc: Global)
+    fn forget_typed_names_if_full(&mut self, alloc: Global)
         ensures { (text : ℕ → List ℕ → ℕ → Option (List ℕ))
             → AreTyped text self.old → AreTyped text self.new }
     {
@@ -77,7 +75,7 @@ impl<'a> TypedNames<'a> {
     ///
     /// # Errors
     /// `AllocError` when memory runs out. Nothing is cached then.
-    pub fn name<P: ModuleProvider>(
+    pub fn name_of_procedure<P: ModuleProvider>(
         &mut self,
         alloc: Global,
         formatter: &mut TypeFormatter<'_, '_, P>,
@@ -88,22 +86,22 @@ impl<'a> TypedNames<'a> {
         requires { AreTyped (typed_text P.provided formatter.old) self.old }
         ensures kept { AreTyped (typed_text P.provided formatter.old) self.new }
         ensures same { formatter.new ≡ formatter.old }
-        ensures name { IfOk result (λ n. option_map arc_str_bytes n
-            ≡ name_by_type (env_of P.provided formatter.old module_index) procedure.now) }
+        ensures name { Names arc_str_bytes result
+            (procedure_text P.provided formatter.old module_index procedure.now) }
     {
         if let Some(name) = self.by_number.get(module_index, number) {
-            if name.is_of(procedure) {
+            if name.is_name_of(procedure) {
                 return share_name(&name.text);
             }
         }
-        let text = typed_name(alloc, formatter, usize::from(module_index), procedure)?;
+        let text = name_by_type(alloc, formatter, usize::from(module_index), procedure)?;
         let text = shared_name(alloc, &text)?;
         let name = TypedName {
             raw: procedure.name,
             type_index: procedure.type_index,
             text: share_name(&text)?,
         };
-        self.forget_if_full(alloc);
+        self.forget_typed_names_if_full(alloc);
         let places = self.by_number.insert(alloc, module_index, number, name)?;
         let room = places.saturating_mul(size_of::<TypedName<'_>>());
         let size = name_size(&text, room);

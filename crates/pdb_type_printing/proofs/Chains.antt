@@ -3,7 +3,7 @@ use Rattle.std.proofs.Common.{◌≡◌, ℕ, suc, ◌+◌, ◌-◌, ◌<◌, �
 use Rattle.std.proofs.Common.{◌++◌, Result, Ok, Err, refl, sym, ap, ◌∙◌, arith}
 use Rattle.std.specs.Prelude.{Option, Some, None}
 use Rattle.pdb_container.specs.Fault.{◌>>=◌}
-use Rattle.pdb_indices.specs.declared.index.TypeIndex.{TypeIndex}
+use Rattle.pdb_container.specs.declared.index.TypeIndex.{TypeIndex}
 use Rattle.pdb_records.specs.Forms.{TypeForm}
 use Rattle.pdb_container.specs.declared.error.Error.TheVariants as causes
 use Rattle.pdb_resolving.specs.declared.error.Error.TheVariants as errors
@@ -11,7 +11,7 @@ use Rattle.pdb_resolving.specs.declared.stop.Stop.{Stop}
 use Rattle.pdb_resolving.specs.declared.stop.Stop.TheVariants as stops
 use Rattle.pdb_resolving.specs.Cause.{Cause, ByFault, ByTable, Ends}
 use Rattle.pdb_resolving.specs.Fault.{CircularTypeDefinition, fault_of}
-use Rattle.pdb_type_pieces.specs.Paths.{Path, is_on}
+use Rattle.pdb_type_printing.specs.Paths.{Path, is_on}
 use Rattle.pdb_type_printing.specs.Env.{Env}
 use Rattle.pdb_type_printing.specs.Arrays.{Elements, array_step, elements_behind, elements_from}
 

@@ -5,18 +5,18 @@ use Rattle.std.proofs.lemmas.Bool.{eqb-true}
 use Rattle.std.proofs.lemmas.List.{append-nil}
 use Rattle.std.specs.List.{prefix_len}
 use Rattle.std.specs.Prelude.{codes, ◌==◌}
-use Rattle.pdb_indices.specs.Bits.{has_bit}
-use Rattle.pdb_indices.specs.declared.index.TypeIndex.{TypeIndex}
+use Rattle.pdb_container.specs.Bits.{has_bit}
+use Rattle.pdb_container.specs.declared.index.TypeIndex.{TypeIndex}
 use Rattle.pdb_container.specs.declared.error.Error.TheVariants as causes
 use Rattle.pdb_resolving.specs.declared.error.Error.TheVariants as errors
 use Rattle.pdb_resolving.specs.declared.stop.Stop.{Stop}
 use Rattle.pdb_resolving.specs.declared.stop.Stop.TheVariants as stops
-use Rattle.pdb_type_pieces.specs.Arguments.{comma, copies}
+use Rattle.pdb_type_printing.specs.Arguments.{comma, copies}
 use Rattle.pdb_type_printing.specs.Env.{Env}
-use Rattle.pdb_type_pieces.specs.Paths.{Path}
-use Rattle.pdb_type_pieces.specs.Pointers.{ends_in_sigil}
-use Rattle.pdb_type_pieces.specs.Printed.{Text, Printed, Done, Stopped, ◌>>=◌, say}
-use Rattle.pdb_type_pieces.specs.Printed.{Stops, Prints}
+use Rattle.pdb_type_printing.specs.Paths.{Path}
+use Rattle.pdb_type_printing.specs.Pointers.{ends_in_sigil}
+use Rattle.pdb_type_printing.specs.Printed.{Text, Printed, Done, Stopped, ◌>>=◌, say}
+use Rattle.pdb_type_printing.specs.Printed.{Stops, Prints}
 use Rattle.pdb_type_printing.specs.Types.{Visit, Whole, visit, visiting, arguments}
 use Rattle.pdb_type_printing.specs.Types.{more_arguments}
 use Rattle.pdb_type_printing.proofs.Others.{stops_on}
@@ -54,11 +54,11 @@ comma_ends_plain w flags = comma_is w (has_bit flags 4)
 more_copies : (env : Env) (visit : Visit) (path : Path) (t : TypeIndex) (piece : Text) (n : ℕ)
     (w : Text) → ((w' : Text) → ends_in_sigil w' ≡ false
     → visit Whole path t.0 w' ≡ Done (w' ++ piece))
-    → more_arguments env visit path (replicate n t) w
+    → more_arguments (replicate n t) env visit path w
     ≡ Done (w ++ copies env.flags piece n)
 more_copies env visit path t piece zero w h = rw append-nil
 more_copies env visit path t piece (suc n) w h =
-    ap (λ (x : Printed). x >>= more_arguments env visit path (replicate n t))
+    ap (λ (x : Printed). x >>= more_arguments (replicate n t) env visit path)
     (h (w ++ comma env.flags) (comma_ends_plain w env.flags))
     ∙ more_copies env visit path t piece n ((w ++ comma env.flags) ++ piece) h
     ∙ ap Done (simp append_assoc)
@@ -71,8 +71,8 @@ then_then (Stopped cause v) all first second h = refl
 
 -- arguments follow one another
 more_then : (env : Env) (visit : Visit) (path : Path) (ts us : List TypeIndex) (w : Text)
-    → more_arguments env visit path (ts ++ us) w
-    ≡ (more_arguments env visit path ts w >>= more_arguments env visit path us)
+    → more_arguments (ts ++ us) env visit path w
+    ≡ (more_arguments ts env visit path w >>= more_arguments us env visit path)
 more_then env visit path [] us w = refl
 more_then env visit path (t ∷ ts) us w =
     then_then (visit Whole path t.0 (w ++ comma env.flags)) _ _ _
@@ -81,14 +81,14 @@ more_then env visit path (t ∷ ts) us w =
 -- ---- what is printed of an argument and those that repeat it
 
 then_none : (env : Env) (visit : Visit) (path : Path) (p : Printed)
-    → (p >>= more_arguments env visit path []) ≡ p
+    → (p >>= more_arguments [] env visit path) ≡ p
 then_none env visit path (Done w) = refl
 then_none env visit path (Stopped cause w) = refl
 
 -- an argument that isn't repeated
 pub alone : (env : Env) (visit : Visit) (path : Path) (t : TypeIndex) (n : ℕ) (w : Text)
     {A : Type 0} (r : Result A Stop) (new : Text) → n ≡ 0 → Prints r new (visit Whole path t.0 w)
-    → Prints r new (arguments env visit path (t ∷ replicate n t) w)
+    → Prints r new (arguments (t ∷ replicate n t) env visit path w)
 alone env visit path t n w r new is h =
     rw (is, then_none env visit path (visit Whole path t.0 w)) h
 
@@ -97,7 +97,7 @@ pub stops_in_copy : (env : Env) (left : ℕ) (path : Path) (t : TypeIndex) (ts :
     (start w w' piece shown : Text) (s : Stop) → ends_in_sigil w ≡ false → start ≡ []
     → shown ≡ piece → say shown w ≡ Done w'
     → Stops s piece (visit env left Whole path t.0 start)
-    → Stops s w' (arguments env (visit env left) path (t ∷ ts) w)
+    → Stops s w' (arguments (t ∷ ts) env (visit env left) path w)
 stops_in_copy env left path t ts start w w' piece shown s plain empty is added h =
     let e : w ++ piece ≡ w' = cc in
     let h1 = subst (λ (x : Text). Stops s piece (visit env left Whole path t.0 x)) empty h in
@@ -105,9 +105,9 @@ stops_in_copy env left path t ts start w w' piece shown s plain empty is added h
     let same = printed_after (visit env left Whole path t.0) w
     (visit_is_uniform env left Whole path t.0) plain in
     let h3 = subst (λ (x : Printed). Stops s (w ++ piece) x) (sym same) h2 in
-    subst (λ (x : Text). Stops s x (arguments env (visit env left) path (t ∷ ts) w)) e
+    subst (λ (x : Text). Stops s x (arguments (t ∷ ts) env (visit env left) path w)) e
     (stops_on s (w ++ piece) (visit env left Whole path t.0 w)
-    (more_arguments env (visit env left) path ts) h3)
+    (more_arguments ts env (visit env left) path) h3)
 
 -- an argument that is copied
 pub copied : (env : Env) (left : ℕ) (path : Path) (t : TypeIndex) (n flags : ℕ)
@@ -115,7 +115,7 @@ pub copied : (env : Env) (left : ℕ) (path : Path) (t : TypeIndex) (n flags : �
     → ends_in_sigil w ≡ false → start ≡ [] → shown ≡ piece → shown' ≡ piece → flags ≡ env.flags
     → visit env left Whole path t.0 start ≡ Done piece → say shown w ≡ Done w'
     → Prints r new (say (copies flags shown' n) w')
-    → Prints r new (arguments env (visit env left) path (t ∷ replicate n t) w)
+    → Prints r new (arguments (t ∷ replicate n t) env (visit env left) path w)
 copied env left path t n flags start w w' piece shown shown' r new plain empty is is' known once
     added h =
     let once' = ap (visit env left Whole path t.0) (sym empty) ∙ once in
@@ -124,46 +124,46 @@ copied env left path t n flags start w w' piece shown shown' r new plain empty i
     printed_after (visit env left Whole path t.0) v (visit_is_uniform env left Whole path t.0)
     no_sign ∙ ap (after v) once' in
     let all : say (copies flags shown' n) w'
-    ≡ arguments env (visit env left) path (t ∷ replicate n t) w =
+    ≡ arguments (t ∷ replicate n t) env (visit env left) path w =
     ap (λ (x : ℕ). say (copies x shown' n) w') known
     ∙ ap (λ (x : Text). say (copies env.flags x n) w') is'
-    ∙ sym (ap (λ (x : Printed). x >>= more_arguments env (visit env left) path (replicate n t))
+    ∙ sym (ap (λ (x : Printed). x >>= more_arguments (replicate n t) env (visit env left) path)
     (each w plain ∙ added') ∙ more_copies env (visit env left) path t piece n w' each) in
     subst (λ (x : Printed). Prints r new x) all h
 
 -- an argument and those that repeat it, and then the others
 first_then : (env : Env) (visit : Visit) (path : Path) (t : TypeIndex) (n : ℕ)
     (ts us : List TypeIndex) (w : Text) → ts ≡ replicate n t ++ us
-    → arguments env visit path (t ∷ ts) w
-    ≡ (arguments env visit path (t ∷ replicate n t) w >>= more_arguments env visit path us)
+    → arguments (t ∷ ts) env visit path w
+    ≡ (arguments (t ∷ replicate n t) env visit path w >>= more_arguments us env visit path)
 first_then env visit path t n ts us w is =
-    ap (λ (x : List TypeIndex). arguments env visit path (t ∷ x) w) is
+    ap (λ (x : List TypeIndex). arguments (t ∷ x) env visit path w) is
     ∙ then_then (visit Whole path t.0 w) _ _ _ (λ v. more_then env visit path (replicate n t) us v)
 
 -- what stops a first argument or one that repeats it stops them all
 pub first_stops : (env : Env) (visit : Visit) (path : Path) (t : TypeIndex) (n : ℕ)
     (ts us : List TypeIndex) (w new : Text) (s : Stop) → ts ≡ replicate n t ++ us
-    → Stops s new (arguments env visit path (t ∷ replicate n t) w)
-    → Stops s new (arguments env visit path (t ∷ ts) w)
+    → Stops s new (arguments (t ∷ replicate n t) env visit path w)
+    → Stops s new (arguments (t ∷ ts) env visit path w)
 first_stops env visit path t n ts us w new s is h =
     subst (λ (x : Printed). Stops s new x) (sym (first_then env visit path t n ts us w is))
-    (stops_on s new _ (more_arguments env visit path us) h)
+    (stops_on s new _ (more_arguments us env visit path) h)
 
 -- after a first argument and those that repeat it
 pub first_goes_on : {F : Type 0} (env : F → Env) (f f' : F) (path path' : Path) (t : TypeIndex)
     (n : ℕ) (ts us : List TypeIndex) (w w' : Text) {A : Type 0} (r : Result A Stop) (new : Text)
     → f' ≡ f → path' ≡ path → ts ≡ replicate n t ++ us
-    → arguments (env f) (visiting (env f) path) path (t ∷ replicate n t) w ≡ Done w'
-    → Prints r new (more_arguments (env f') (visiting (env f') path') path' us w')
-    → Prints r new (arguments (env f) (visiting (env f) path) path (t ∷ ts) w)
+    → arguments (t ∷ replicate n t) (env f) (visiting (env f) path) path w ≡ Done w'
+    → Prints r new (more_arguments us (env f') (visiting (env f') path') path' w')
+    → Prints r new (arguments (t ∷ ts) (env f) (visiting (env f) path) path w)
 first_goes_on {F} env f f' path path' t n ts us w w' r new same on is printed h =
     let h1 = subst (λ (x : F). Prints r new
-    (more_arguments (env x) (visiting (env x) path') path' us w')) same h in
+    (more_arguments us (env x) (visiting (env x) path') path' w')) same h in
     let h2 = subst (λ (x : Path). Prints r new
-    (more_arguments (env f) (visiting (env f) x) x us w')) on h1 in
+    (more_arguments us (env f) (visiting (env f) x) x w')) on h1 in
     subst (λ (x : Printed). Prints r new x)
     (sym (first_then (env f) (visiting (env f) path) path t n ts us w is
-    ∙ ap (λ (x : Printed). x >>= more_arguments (env f) (visiting (env f) path) path us) printed))
+    ∙ ap (λ (x : Printed). x >>= more_arguments us (env f) (visiting (env f) path) path) printed))
     h2
 
 -- ---- further arguments, and what all of them are printed as
@@ -173,19 +173,19 @@ further : {F : Type 0} (env : F → Env) (f f' : F) (path path' : Path) (flags :
     (n : ℕ) (ts us : List TypeIndex) (w w' : Text) (total : Printed)
     → f' ≡ f → path' ≡ path → flags ≡ (env f').flags → ts ≡ t ∷ (replicate n t ++ us)
     → say (comma flags) w ≡ Done w'
-    → more_arguments (env f) (visiting (env f) path) path ts w ≡ total
-    → (arguments (env f') (visiting (env f') path') path' (t ∷ replicate n t) w'
-    >>= more_arguments (env f) (visiting (env f) path) path us) ≡ total
+    → more_arguments ts (env f) (visiting (env f) path) path w ≡ total
+    → (arguments (t ∷ replicate n t) (env f') (visiting (env f') path') path' w'
+    >>= more_arguments us (env f) (visiting (env f) path) path) ≡ total
 further {F} env f f' path path' flags t n ts us w w' total same on known is said so_far =
-    ap (λ (x : F). arguments (env x) (visiting (env x) path') path' (t ∷ replicate n t) w'
-    >>= more_arguments (env f) (visiting (env f) path) path us) same
-    ∙ ap (λ (x : Path). arguments (env f) (visiting (env f) x) x (t ∷ replicate n t) w'
-    >>= more_arguments (env f) (visiting (env f) path) path us) on
+    ap (λ (x : F). arguments (t ∷ replicate n t) (env x) (visiting (env x) path') path' w'
+    >>= more_arguments us (env f) (visiting (env f) path) path) same
+    ∙ ap (λ (x : Path). arguments (t ∷ replicate n t) (env f) (visiting (env f) x) x w'
+    >>= more_arguments us (env f) (visiting (env f) path) path) on
     ∙ sym (first_then (env f) (visiting (env f) path) path t n (replicate n t ++ us) us w' refl)
     ∙ ap (λ (x : Printed). x
-    >>= arguments (env f) (visiting (env f) path) path (t ∷ (replicate n t ++ us)))
+    >>= arguments (t ∷ (replicate n t ++ us)) (env f) (visiting (env f) path) path)
     (sym said ∙ ap (λ (x : ℕ). say (comma x) w) (known ∙ ap (λ (x : F). (env x).flags) same))
-    ∙ ap (λ (x : List TypeIndex). more_arguments (env f) (visiting (env f) path) path x w)
+    ∙ ap (λ (x : List TypeIndex). more_arguments x (env f) (visiting (env f) path) path w)
     (sym is) ∙ so_far
 
 -- after a further argument and those that repeat it
@@ -193,11 +193,11 @@ pub run_goes_on : {F : Type 0} (env : F → Env) (f f' : F) (path path' : Path) 
     (t : TypeIndex) (n : ℕ) (ts us : List TypeIndex) (w w' w'' : Text) (total : Printed)
     → f' ≡ f → path' ≡ path → flags ≡ (env f').flags → ts ≡ t ∷ (replicate n t ++ us)
     → say (comma flags) w ≡ Done w'
-    → arguments (env f') (visiting (env f') path') path' (t ∷ replicate n t) w' ≡ Done w''
-    → more_arguments (env f) (visiting (env f) path) path ts w ≡ total
-    → more_arguments (env f) (visiting (env f) path) path us w'' ≡ total
+    → arguments (t ∷ replicate n t) (env f') (visiting (env f') path') path' w' ≡ Done w''
+    → more_arguments ts (env f) (visiting (env f) path) path w ≡ total
+    → more_arguments us (env f) (visiting (env f) path) path w'' ≡ total
 run_goes_on env f f' path path' flags t n ts us w w' w'' total same on known is said h so_far =
-    ap (λ (x : Printed). x >>= more_arguments (env f) (visiting (env f) path) path us) (sym h)
+    ap (λ (x : Printed). x >>= more_arguments us (env f) (visiting (env f) path) path) (sym h)
     ∙ further env f f' path path' flags t n ts us w w' total same on known is said so_far
 
 -- what stops a further argument or one that repeats it stops them all
@@ -206,9 +206,9 @@ pub run_stops : {F : Type 0} (env : F → Env) (f f' : F) (path path' : Path) (f
     (total : Printed)
     → f' ≡ f → path' ≡ path → flags ≡ (env f').flags → ts ≡ t ∷ (replicate n t ++ us)
     → say (comma flags) w ≡ Done w'
-    → Stops s new (arguments (env f') (visiting (env f') path') path' (t ∷ replicate n t) w')
-    → more_arguments (env f) (visiting (env f) path) path ts w ≡ total → Stops s new total
+    → Stops s new (arguments (t ∷ replicate n t) (env f') (visiting (env f') path') path' w')
+    → more_arguments ts (env f) (visiting (env f) path) path w ≡ total → Stops s new total
 run_stops env f f' path path' flags t n ts us w w' new s total same on known is said h so_far =
     subst (λ (x : Printed). Stops s new x)
     (further env f f' path path' flags t n ts us w w' total same on known is said so_far)
-    (stops_on s new _ (more_arguments (env f) (visiting (env f) path) path us) h)
+    (stops_on s new _ (more_arguments us (env f) (visiting (env f) path) path) h)

@@ -7,7 +7,7 @@ use Rattle.pdb_resolving.specs.declared.stop.Stop.{Stop}
 use Rattle.pdb_resolving.specs.declared.stop.Stop.TheVariants as stops
 use Rattle.pdb_resolving.specs.Cause.{Cause, ByFault, Ends}
 use Rattle.pdb_resolving.specs.Fault.{Fault, CircularTypeDefinition, Fails}
-use Rattle.pdb_type_pieces.specs.Printed.{Text, Printed, Stopped, Stops, Prints, read_or, caught}
+use Rattle.pdb_type_printing.specs.Printed.{Text, Printed, Stopped, Stops, Prints, read_or, caught}
 
 -- what could not be read stops the printing, where nothing is printed in its place
 pub fails_stops : {A : Type 0} (s : Stop) (read : Result A Cause) (w : Text) (more : A → Printed)

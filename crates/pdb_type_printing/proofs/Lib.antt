@@ -1,7 +1,12 @@
 pub mod Chains
 pub mod Copies
+pub mod Digits
 pub mod Failing
+pub mod OneMoreCopy
 pub mod Others
+pub mod Placed
+pub mod PointerSteps
+pub mod Repeats
 pub mod Returns
 pub mod Steps
 pub mod Uniform

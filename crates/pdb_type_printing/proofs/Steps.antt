@@ -7,7 +7,7 @@ use Rattle.pdb_resolving.specs.declared.error.Error.TheVariants as errors
 use Rattle.pdb_resolving.specs.declared.stop.Stop.{Stop}
 use Rattle.pdb_resolving.specs.declared.stop.Stop.TheVariants as stops
 use Rattle.pdb_resolving.specs.Cause.{Cause, Ends, Finds}
-use Rattle.pdb_type_pieces.specs.Printed.{Text, Printed, Done, Stopped, ◌>>=◌, Stops, Prints}
+use Rattle.pdb_type_printing.specs.Printed.{Text, Printed, Done, Stopped, ◌>>=◌, Stops, Prints}
 
 -- a call that passes on what ended a step
 pub failed : {A : Type 0} (s : Stop) (r : Result A Stop) (new : Text) (p : Printed)

@@ -6,10 +6,10 @@ use Rattle.std.specs.Prelude.{codes, slice_get}
 use Rattle.pdb_container.specs.Fault.{TypeNotFound, UnimplementedTypeKind}
 use Rattle.pdb_resolving.specs.Cause.{Cause, ByFault}
 use Rattle.pdb_resolving.specs.Fault.{PdbError}
-use Rattle.pdb_type_pieces.specs.Printed.{Text, Printed, Done, Stopped, ◌>>=◌, say, unread, caught}
-use Rattle.pdb_type_pieces.specs.Printed.{read_or}
-use Rattle.pdb_type_pieces.specs.Pointers.{is_sigil, ends_in_sigil, pointers_text}
-use Rattle.pdb_type_pieces.specs.declared.pointers.PointerLevel.{PointerLevel}
+use Rattle.pdb_type_printing.specs.Printed.{Text, Printed, Done, Stopped, ◌>>=◌, say, unread, caught}
+use Rattle.pdb_type_printing.specs.Printed.{read_or}
+use Rattle.pdb_type_printing.specs.Pointers.{is_sigil, ends_in_sigil, pointers_text}
+use Rattle.pdb_type_printing.specs.declared.pointers.PointerLevel.{PointerLevel}
 
 -- ---- what is added to a text
 

@@ -11,9 +11,9 @@ use Rattle.pdb_resolving.specs.declared.stop.Stop.{Stop}
 use Rattle.pdb_resolving.specs.declared.stop.Stop.TheVariants as stops
 use Rattle.pdb_resolving.specs.Cause.{Cause, ByFault, Ends}
 use Rattle.pdb_resolving.specs.Fault.{CircularTypeDefinition}
-use Rattle.pdb_type_pieces.specs.Printed.{Text, Printed, Stopped, Prints, PrintsUnread, Stops}
-use Rattle.pdb_type_pieces.specs.Printed.{unread, caught, read_or}
-use Rattle.pdb_type_pieces.specs.Paths.{Path, room, may_enter, Blocked}
+use Rattle.pdb_type_printing.specs.Printed.{Text, Printed, Stopped, Prints, PrintsUnread, Stops}
+use Rattle.pdb_type_printing.specs.Printed.{unread, caught, read_or}
+use Rattle.pdb_type_printing.specs.Paths.{Path, room, may_enter, Blocked}
 use Rattle.pdb_type_printing.specs.Env.{Env}
 use Rattle.pdb_type_printing.specs.Types.{Task, Whole, PointedTo, PointedModified, Modified}
 use Rattle.pdb_type_printing.specs.Types.{MethodArguments, record_text, visit, visiting, visited}
@@ -43,8 +43,8 @@ never env (MethodArguments class this says) i w k k' = refl
 
 -- what is printed of an index once it is on the path and was read
 abbrev pub onward : Env → Task → Path → ℕ → Text → TypeForm → Printed
-onward env task path i w form = visited env (visit env (room (path ++ i ∷ []))) task
-    (path ++ i ∷ []) form w
+onward env task path i w form = visited task form env (visit env (room (path ++ i ∷ []))) (path ++ i
+    ∷ []) w
 
 -- what is printed of an index, by whether it may go on the path
 pub visit_is : (env : Env) (task : Task) (path : Path) (i : ℕ) (w : Text)
@@ -79,11 +79,14 @@ deep env (MethodArguments class this says) free i w k h = refl
 deep_ok : (env : Env) (task : Task) (path inner : Path) (i : ℕ) (w : Text) {A : Type 0}
     (r : Result A Stop) (new : Text) → IsDeep task → may_enter path i ≡ true
     → inner ≡ path ++ i ∷ []
-    → Prints r new (inside_text env task inner i w) → Prints r new (visiting env path task path i w)
+    → Prints r new (inside_text task i env (visiting env inner) inner w) → Prints r new (visiting
+    env path task path i w)
 deep_ok env task path inner i w r new h free same p =
-    let q : Prints r new (inside_text env task (path ++ i ∷ []) i w) =
-    subst (λ (x : Path). Prints r new (inside_text env task x i w)) same p in
-    let e : visit env (room path) task path i w ≡ inside_text env task (path ++ i ∷ []) i w =
+    let q : Prints r new (inside_text task i env (visiting env (path ++ i ∷ [])) (path ++ i ∷ []) w)
+    =
+    subst (λ (x : Path). Prints r new (inside_text task i env (visiting env x) x w)) same p in
+    let e : visit env (room path) task path i w ≡ inside_text task i env (visiting env (path ++ i ∷
+    [])) (path ++ i ∷ []) w =
     visit_is env task path i w ∙ deep env task (may_enter path i) i w (onward env task path i w)
     h
     ∙ ap
@@ -110,7 +113,8 @@ deep_err env task path inner i w e h blocked =
 pub level_ok : (env : Env) (task : Task) (path start inner : Path) (i : ℕ) (w : Text) {A : Type 0}
     (r : Result A Stop) (new : Text) → IsDeep task → start ≡ path
     → (inner ≡ start ++ i ∷ []) × (may_enter start i ≡ true)
-    → Prints r new (inside_text env task inner i w) → Prints r new (visiting env path task path i w)
+    → Prints r new (inside_text task i env (visiting env inner) inner w) → Prints r new (visiting
+    env path task path i w)
 level_ok env task path start inner i w r new h begins entered p =
     subst (λ (x : Path). Prints r new (visiting env x task x i w)) begins
     (deep_ok env task start inner i w r new h entered.1 entered.0 p)
@@ -159,7 +163,7 @@ pub whole_read : {F : Type 0} (env : F → Env) (f f' : F) (path : Path) (i : �
     → (env f).read i ≡ Ok form
     → Prints r new
     (cond (may_enter path i)
-    (caught (record_text (env f') (visiting (env f') (path ++ i ∷ [])) (path ++ i ∷ []) form w))
+    (caught (record_text form (env f') (visiting (env f') (path ++ i ∷ [])) (path ++ i ∷ []) w))
     (Stopped (ByFault (CircularTypeDefinition i)) w))
     → Prints r new (visiting (env f) path Whole path i w)
 whole_read {F} env f f' path i w form r new same h p =
@@ -167,6 +171,6 @@ whole_read {F} env f f' path i w form r new same h p =
     subst
     (λ (x : F). Prints r new
     (cond (may_enter path i)
-    (caught (record_text (env x) (visiting (env x) (path ++ i ∷ [])) (path ++ i ∷ []) form w))
+    (caught (record_text form (env x) (visiting (env x) (path ++ i ∷ [])) (path ++ i ∷ []) w))
     (Stopped (ByFault (CircularTypeDefinition i)) w))) same p in
     rw (visit_is (env f) Whole path i w, h) q

@@ -2,13 +2,13 @@
 use Rattle.std.specs.Prelude.{ℕ, zero, suc, List, [], ◌∷◌, ◌++◌, Option, Some, None, Result, Ok}
 use Rattle.std.specs.Prelude.{Err, if◌then◌else◌}
 use Rattle.pdb_container.specs.Fault.{◌>>=◌}
-use Rattle.pdb_indices.specs.declared.index.TypeIndex.{TypeIndex}
+use Rattle.pdb_container.specs.declared.index.TypeIndex.{TypeIndex}
 use Rattle.pdb_records.specs.Forms as forms
 use Rattle.pdb_records.specs.Forms.{TypeForm, Plain, ArrayForm}
 use Rattle.pdb_resolving.specs.Cause.{Cause, ByFault}
 use Rattle.pdb_resolving.specs.Fault.{CircularTypeDefinition}
-use Rattle.pdb_type_pieces.specs.Brackets.{first_or_zero}
-use Rattle.pdb_type_pieces.specs.Paths.{Path, is_on}
+use Rattle.pdb_type_printing.specs.Brackets.{first_or_zero}
+use Rattle.pdb_type_printing.specs.Paths.{Path, is_on}
 use Rattle.pdb_type_printing.specs.Env.{Env}
 
 -- arrays of arrays: the first dimension of each, the outer first, the innermost element's index,

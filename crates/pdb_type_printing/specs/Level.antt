@@ -1,6 +1,6 @@
 -- What a call that prints leaves of a level of indices.
 use Rattle.std.specs.Prelude.{◌≡◌}
-use Rattle.pdb_type_pieces.specs.declared.path.Seen.{Seen}
+use Rattle.pdb_type_printing.specs.declared.path.Seen.{Seen}
 
 -- A call leaves a level as it was: the reference to its path, where it began, and the path.
 pub record KeepsLevel (old new : Seen) : Type 0 where

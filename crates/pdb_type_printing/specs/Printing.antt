@@ -8,6 +8,7 @@ use Rattle.pdb_module_items.specs.Reading.{with_failed as reading_with_failed}
 use Rattle.pdb_module_items.specs.Sizes.{size_at}
 use Rattle.pdb_type_printing.specs.Arrays as arrays
 use Rattle.pdb_type_printing.specs.declared.elements.Elements.{Elements}
+use Rattle.pdb_type_printing.specs.declared.asker.Asker.{Asker}
 use Rattle.pdb_type_printing.specs.Env.{Env}
 
 -- what types and ids are read from, and the flags
@@ -23,6 +24,10 @@ env_of provided f asking = record {
   size = size_at (parts_by provided f.reading) asking;
   flags = f.flags;
 }
+
+-- what texts are made of in the module that asks
+abbrev pub env_for : {P : Type 0} → (P → Provided) → Formatting P → Asker → Env
+env_for provided f asker = env_of provided f asker.module_index
 
 -- what a formatter stores, with one more table of a module stored as failed
 abbrev pub with_failed : {P : Type 0} → Formatting P → Table → Formatting P

@@ -1,11 +1,11 @@
 -- The pointer by which a method receives its object.
 use Rattle.std.specs.Prelude.{false, Option, Some, None, Result, Ok, if◌then◌else◌, ◌==◌}
 use Rattle.pdb_container.specs.Fault.{◌>>=◌}
-use Rattle.pdb_indices.specs.declared.index.TypeIndex.{TypeIndex}
+use Rattle.pdb_container.specs.declared.index.TypeIndex.{TypeIndex}
 use Rattle.pdb_records.specs.Forms as forms
 use Rattle.pdb_records.specs.Forms.{TypeForm, Plain}
 use Rattle.pdb_resolving.specs.Cause.{Cause}
-use Rattle.pdb_type_pieces.specs.Objects.{This, this_to_modified}
+use Rattle.pdb_type_printing.specs.Objects.{This, this_to_modified}
 use Rattle.pdb_type_printing.specs.Env.{Env}
 
 -- a pointer that leads to the class is plain; else what it leads to is read

@@ -1,20 +1,23 @@
 //! Arguments as text. An argument that a list names several times in a row is printed once, and its
 //! text is copied.
 
-ghost use Rattle.std.specs.Prelude.{◌≡◌, ◌≤◌, ◌∷◌, false, length, replicate, string_bytes};
-ghost use Rattle.pdb_type_pieces.specs.Pointers.{ends_in_sigil};
+ghost use Rattle.std.specs.Prelude.{◌≡◌, ◌≤◌, ◌∷◌, false, length, string_bytes};
+ghost use Rattle.pdb_type_printing.specs.Pointers.{ends_in_sigil};
 ghost use Rattle.pdb_type_printing.specs.Level.{KeepsLevel};
-ghost use Rattle.pdb_type_printing.specs.Prints.{PrintsType};
-ghost use Rattle.pdb_type_printing.specs.Types.{arguments, more_arguments, with_extra};
+ghost use Rattle.pdb_type_printing.specs.Prints.{Appends};
+ghost use Rattle.pdb_type_printing.specs.Types.{arguments, more_arguments, repeated};
+ghost use Rattle.pdb_type_printing.specs.Types.{extra_and_arguments};
 
+use crate::argument_pieces::{emit_comma, emit_copies};
 use crate::asker::Asker;
+use crate::path::Seen;
+use crate::pointers::ends_in_sigil;
 use crate::printer::TypePrinter;
-use pdb_indices::TypeIndex;
+use crate::runs::{first_and_more, first_run, run_within};
+use crate::text::emit;
+use pdb_container::TypeIndex;
 use pdb_resolving::ModuleProvider;
 use pdb_resolving::stop::Result;
-use pdb_type_pieces::{
-    Seen, emit, emit_comma, emit_copies, ends_in_sigil, first_and_more, first_run, run_within,
-};
 
 impl<'a, 's, P: ModuleProvider> TypePrinter<'a, 's, P> {
     /// Appends arguments with commas between them.
@@ -29,8 +32,8 @@ impl<'a, 's, P: ModuleProvider> TypePrinter<'a, 's, P> {
         requires { length seen.old.path.now.items ≤ 1024 }
         ensures same { self.new ≡ self.old }
         ensures level { KeepsLevel seen.old seen.new }
-        ensures text { PrintsType P.provided self.old asker seen.old
-            (λ env visit path. arguments env visit path list.now) w.old w.new result }
+        ensures text { Appends P.provided self.old asker seen.old
+            (arguments list.now) w.old w.new result }
     {
         match first_and_more(list) {
             None => Ok(()),
@@ -51,9 +54,8 @@ impl<'a, 's, P: ModuleProvider> TypePrinter<'a, 's, P> {
         requires { length seen.old.path.now.items ≤ 1024 }
         ensures same { self.new ≡ self.old }
         ensures level { KeepsLevel seen.old seen.new }
-        ensures text { PrintsType P.provided self.old asker seen.old
-            (λ env visit path. arguments env visit path (with_extra extra list.now))
-            w.old w.new result }
+        ensures text { Appends P.provided self.old asker seen.old
+            (extra_and_arguments extra list.now) w.old w.new result }
     {
         let Some(first) = extra else {
             return self.emit_arguments(asker, w, list, seen);
@@ -75,8 +77,8 @@ impl<'a, 's, P: ModuleProvider> TypePrinter<'a, 's, P> {
         requires { length seen.old.path.now.items ≤ 1024 }
         ensures same { self.new ≡ self.old }
         ensures level { KeepsLevel seen.old seen.new }
-        ensures text { PrintsType P.provided self.old asker seen.old
-            (λ env visit path. arguments env visit path (first ∷ more.now)) w.old w.new result }
+        ensures text { Appends P.provided self.old asker seen.old
+            (arguments (first ∷ more.now)) w.old w.new result }
     {
         if ends_in_sigil(w.as_bytes()) {
             self.emit_type_index(asker, w, first, seen)?;
@@ -99,8 +101,8 @@ impl<'a, 's, P: ModuleProvider> TypePrinter<'a, 's, P> {
         requires { length seen.old.path.now.items ≤ 1024 }
         ensures same { self.new ≡ self.old }
         ensures level { KeepsLevel seen.old seen.new }
-        ensures text { PrintsType P.provided self.old asker seen.old
-            (λ env visit path. more_arguments env visit path list.now) w.old w.new result }
+        ensures text { Appends P.provided self.old asker seen.old
+            (more_arguments list.now) w.old w.new result }
     {
         let mut rest = list;
         while let Some(run) = first_run(rest, seen.path.len()) {
@@ -129,9 +131,8 @@ impl<'a, 's, P: ModuleProvider> TypePrinter<'a, 's, P> {
         requires no_sign { ends_in_sigil (string_bytes w.old) ≡ false }
         ensures same { self.new ≡ self.old }
         ensures level { KeepsLevel seen.old seen.new }
-        ensures text { PrintsType P.provided self.old asker seen.old
-            (λ env visit path. arguments env visit path (index ∷ replicate repeats index))
-            w.old w.new result }
+        ensures text { Appends P.provided self.old asker seen.old
+            (repeated index repeats) w.old w.new result }
     {
         if repeats == 0 {
             return self.emit_type_index(asker, w, index, seen);
@@ -154,9 +155,8 @@ impl<'a, 's, P: ModuleProvider> TypePrinter<'a, 's, P> {
         requires no_sign { ends_in_sigil (string_bytes w.old) ≡ false }
         ensures same { self.new ≡ self.old }
         ensures level { KeepsLevel seen.old seen.new }
-        ensures text { PrintsType P.provided self.old asker seen.old
-            (λ env visit path. arguments env visit path (index ∷ replicate repeats index))
-            w.old w.new result }
+        ensures text { Appends P.provided self.old asker seen.old
+            (repeated index repeats) w.old w.new result }
     {
         let mut argument = String::new(asker.alloc);
         let printed = self.emit_type_index(asker, &mut argument, index, seen);

@@ -4,12 +4,12 @@ ghost use Rattle.std.specs.Prelude.{◌≡◌};
 ghost use Rattle.pdb_records.specs.Shapes.{shape};
 ghost use Rattle.pdb_type_printing.specs.Arrays.{array_step};
 
-use pdb_indices::TypeIndex;
+use crate::brackets::first_or_zero;
+use pdb_container::TypeIndex;
 use pdb_records::TypeData;
-use pdb_type_pieces::first_or_zero;
 
 /// How many elements a chain of arrays may have: as many as a path of a type's text has
-/// (`MAX_LENGTH` of `pdb_type_pieces`).
+/// (`MAX_LENGTH` of `index_path`).
 pub const MAX_ELEMENTS: u32 = 1024;
 
 /// Arrays of arrays, down to what is no array.

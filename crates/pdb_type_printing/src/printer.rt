@@ -6,17 +6,20 @@ ghost use Rattle.pdb_records.specs.IdForms.{id_shape};
 ghost use Rattle.pdb_resolving.specs.Cause.{Finds};
 ghost use Rattle.pdb_resolving.specs.Fault.{Answers};
 ghost use Rattle.pdb_type_printing.specs.Arrays.{elements_of};
-ghost use Rattle.pdb_type_printing.specs.Printing.{elements_seen, env_of, with_failed};
+ghost use Rattle.pdb_type_printing.specs.Printing.{elements_seen, env_for, with_failed};
 ghost use Rattle.pdb_type_printing.specs.This.{this_of, this_to};
 
 use crate::asker::Asker;
+use crate::brackets::first_or_zero;
 use crate::elements::{Elements, MAX_ELEMENTS, array_step};
-use pdb_indices::{IdIndex, TypeIndex};
+use crate::flags::TypeFormatterFlags;
+use crate::index_path::IndexPath;
+use crate::objects::this_behind;
+use pdb_container::{IdIndex, TypeIndex};
 use pdb_module_items::ItemReader;
 use pdb_records::{ArrayType, IdData, TypeData};
 use pdb_resolving::stop::{Result, Stop};
 use pdb_resolving::{Error, ModuleProvider};
-use pdb_type_pieces::{IndexPath, TypeFormatterFlags, first_or_zero, this_behind};
 use std::marker::Model;
 
 /// Prints types by their indices, as the modules of a database have them.
@@ -63,7 +66,7 @@ impl<'a, 's, P: ModuleProvider> TypePrinter<'a, 's, P> {
     pub fn read(&mut self, asker: Asker, index: TypeIndex) -> Result<TypeData<'a>>
         ensures same { self.new ≡ self.old }
         ensures value { Finds shape result
-            ((env_of P.provided self.old asker.module_index).read index.0) }
+            ((env_for P.provided self.old asker).read index.0) }
     {
         self.reader
             .read_type(asker.alloc, asker.module_index, index)
@@ -76,7 +79,7 @@ impl<'a, 's, P: ModuleProvider> TypePrinter<'a, 's, P> {
     pub fn read_id(&mut self, asker: Asker, index: IdIndex) -> Result<IdData<'a>>
         ensures same { self.new ≡ self.old }
         ensures value { Finds id_shape result
-            ((env_of P.provided self.old asker.module_index).read_id index.0) }
+            ((env_for P.provided self.old asker).read_id index.0) }
     {
         self.reader.read_id(asker.alloc, asker.module_index, index)
     }
@@ -88,7 +91,7 @@ impl<'a, 's, P: ModuleProvider> TypePrinter<'a, 's, P> {
     pub fn size(&mut self, asker: Asker, index: TypeIndex) -> pdb_resolving::Result<u64>
         ensures same { self.new ≡ self.old }
         ensures value { Answers (λ n. n) result
-            (Ok ((env_of P.provided self.old asker.module_index).size index.0)) }
+            (Ok ((env_for P.provided self.old asker).size index.0)) }
     {
         self.reader.size(asker.alloc, asker.module_index, index)
     }
@@ -102,7 +105,7 @@ impl<'a, 's, P: ModuleProvider> TypePrinter<'a, 's, P> {
     pub(crate) fn elements_of(&mut self, asker: Asker, array: &ArrayType) -> Result<Elements<'a>>
         ensures same { self.new ≡ self.old }
         ensures value { Finds elements_seen result
-            (elements_of (env_of P.provided self.old asker.module_index) (array_form array.now)) }
+            (elements_of (env_for P.provided self.old asker) (array_form array.now)) }
     {
         let mut passed = IndexPath::new(asker.alloc);
         let mut dimensions = Vec::new(asker.alloc);
@@ -142,7 +145,7 @@ impl<'a, 's, P: ModuleProvider> TypePrinter<'a, 's, P> {
     ) -> Result<(bool, Option<TypeIndex>)>
         ensures same { self.new ≡ self.old }
         ensures value { Finds (λ x. x) result
-            (this_of (env_of P.provided self.old asker.module_index) class this) }
+            (this_of (env_for P.provided self.old asker) class this) }
     {
         let Some(this) = this else {
             return Ok((false, None));
@@ -163,7 +166,7 @@ impl<'a, 's, P: ModuleProvider> TypePrinter<'a, 's, P> {
     ) -> Result<(bool, Option<TypeIndex>)>
         ensures same { self.new ≡ self.old }
         ensures value { Finds (λ x. x) result
-            (this_to (env_of P.provided self.old asker.module_index) class this target) }
+            (this_to (env_for P.provided self.old asker) class this target) }
     {
         if target.0 == class.0 {
             return Ok((false, None));

@@ -1,35 +1,37 @@
 //! Types as text.
 
 ghost use Rattle.std.specs.Prelude.{◌≡◌, ◌≤◌, ◌==◌, [], Some, length};
-ghost use Rattle.pdb_records.specs.Forms as forms;
-ghost use Rattle.pdb_records.specs.Forms.{Plain};
-ghost use Rattle.pdb_records.specs.Shapes.{shape, array_form};
-ghost use Rattle.pdb_type_pieces.specs.Pointers.{level_of as level_of_pointer};
-ghost use Rattle.pdb_type_pieces.specs.Printed.{caught, read_or};
-ghost use Rattle.pdb_type_printing.specs.Arrays.{elements_of};
+ghost use Rattle.pdb_records.specs.Shapes.{shape};
+ghost use Rattle.pdb_type_printing.specs.Printed.{read_or};
 ghost use Rattle.pdb_type_printing.specs.Level.{KeepsLevel};
-ghost use Rattle.pdb_type_printing.specs.Types.{Whole, Modified, PointedTo, PointedModified};
-ghost use Rattle.pdb_type_printing.specs.Types.{arguments_of, inside_text, shown_text};
+ghost use Rattle.pdb_type_printing.specs.Prints.{Appends};
+ghost use Rattle.pdb_type_printing.specs.Types.{Whole, indexed, entered, shown_text};
 ghost use Rattle.pdb_type_printing.specs.Types.{returned, returned_unless, in_brackets};
-ghost use Rattle.pdb_type_printing.specs.Types.{method_arguments, plain_text, array_text};
-ghost use Rattle.pdb_type_printing.specs.Types.{record_text, modified_text, pointed_text};
-ghost use Rattle.pdb_type_printing.specs.Types.{entered_text};
-ghost use Rattle.pdb_type_printing.specs.Prints.{PrintsType};
+ghost use Rattle.pdb_type_printing.specs.Types.{method_arguments, method_list, method_list_inside};
+ghost use Rattle.pdb_type_printing.specs.Types.{plain_text, plain_caught, record_text};
+ghost use Rattle.pdb_type_printing.specs.Types.{record_caught, array_type, method_type};
+ghost use Rattle.pdb_type_printing.specs.Types.{procedure_type, pointer_type, pointee};
+ghost use Rattle.pdb_type_printing.specs.Types.{pointee_inside, modified_pointee};
+ghost use Rattle.pdb_type_printing.specs.Types.{modified_pointee_inside, pointed_type};
+ghost use Rattle.pdb_type_printing.specs.Types.{pointed_method, pointed_procedure, modified};
+ghost use Rattle.pdb_type_printing.specs.Types.{modified_inside, modified_type};
 
+use crate::argument_pieces::leaves_out_arguments;
 use crate::asker::Asker;
+use crate::brackets::emit_brackets;
+use crate::names::{class_word, emit_named, emit_primitive, emit_unhandled};
+use crate::objects::emit_constant_object;
+use crate::path::Seen;
+use crate::pointers::{PointerLevel, emit_pointers, ends_in_sigil, leading_to, level_of};
 use crate::printer::TypePrinter;
-use pdb_indices::TypeIndex;
+use crate::text::{emit, emit_missing, emit_unread};
+use crate::words::{emit_bare_function, emit_bare_method, emit_constant, shown_return};
+use pdb_container::TypeIndex;
 use pdb_records::{
     ArrayType, FunctionAttributes, MemberFunctionType, PointerType, ProcedureType, TypeData,
 };
 use pdb_resolving::stop::{Result, Stop};
 use pdb_resolving::{Error, ModuleProvider};
-use pdb_type_pieces::{
-    PointerLevel, Seen, class_word, emit, emit_bare_function, emit_bare_method, emit_brackets,
-    emit_constant, emit_constant_object, emit_missing, emit_named, emit_pointers, emit_primitive,
-    emit_unhandled, emit_unread, ends_in_sigil, leading_to, leaves_out_arguments, level_of,
-    shown_return,
-};
 
 impl<'a, 's, P: ModuleProvider> TypePrinter<'a, 's, P> {
     /// Appends a type on its own. A type that is missing, or whose leaf has no form, has a text of
@@ -48,8 +50,8 @@ impl<'a, 's, P: ModuleProvider> TypePrinter<'a, 's, P> {
         requires { length seen.old.path.now.items ≤ 1024 }
         ensures same { self.new ≡ self.old }
         ensures level { KeepsLevel seen.old seen.new }
-        ensures text { PrintsType P.provided self.old asker seen.old
-            (λ env visit path. visit Whole path index.0) w.old w.new result }
+        ensures text { Appends P.provided self.old asker seen.old
+            (indexed Whole index) w.old w.new result }
     {
         match self.read(asker, index) {
             Ok(found) => self.emit_entered(asker, w, index, &found, seen),
@@ -70,8 +72,8 @@ impl<'a, 's, P: ModuleProvider> TypePrinter<'a, 's, P> {
         requires { length seen.old.path.now.items ≤ 1024 }
         ensures same { self.new ≡ self.old }
         ensures level { KeepsLevel seen.old seen.new }
-        ensures text { PrintsType P.provided self.old asker seen.old
-            (λ env visit path. entered_text env path index.0 (shape found.now)) w.old w.new result }
+        ensures text { Appends P.provided self.old asker seen.old
+            (entered index (shape found.now)) w.old w.new result }
     {
         let mut level = Seen::new(&mut *seen.path);
         level.insert(index.0)?;
@@ -91,9 +93,8 @@ impl<'a, 's, P: ModuleProvider> TypePrinter<'a, 's, P> {
         requires { length seen.old.path.now.items ≤ 1024 }
         ensures same { self.new ≡ self.old }
         ensures level { KeepsLevel seen.old seen.new }
-        ensures text { PrintsType P.provided self.old asker seen.old
-            (λ env visit path w. caught (record_text env visit path (shape found.now) w))
-            w.old w.new result }
+        ensures text { Appends P.provided self.old asker seen.old
+            (record_caught (shape found.now)) w.old w.new result }
     {
         match self.emit_type_inner(asker, w, found, seen) {
             Err(Stop::ByError(Error::PdbError(pdb_container::Error::TypeNotFound(index)))) => {
@@ -115,8 +116,8 @@ impl<'a, 's, P: ModuleProvider> TypePrinter<'a, 's, P> {
         requires { length seen.old.path.now.items ≤ 1024 }
         ensures same { self.new ≡ self.old }
         ensures level { KeepsLevel seen.old seen.new }
-        ensures text { PrintsType P.provided self.old asker seen.old
-            (λ env visit path. record_text env visit path (shape found.now)) w.old w.new result }
+        ensures text { Appends P.provided self.old asker seen.old
+            (record_text (shape found.now)) w.old w.new result }
     {
         match found {
             TypeData::Array(t) => self.emit_array(asker, w, t, seen),
@@ -137,9 +138,8 @@ impl<'a, 's, P: ModuleProvider> TypePrinter<'a, 's, P> {
         requires { length seen.old.path.now.items ≤ 1024 }
         ensures same { self.new ≡ self.old }
         ensures level { KeepsLevel seen.old seen.new }
-        ensures text { PrintsType P.provided self.old asker seen.old
-            (λ env visit path. record_text env visit path (Plain (forms.Array (array_form t.now))))
-            w.old w.new result }
+        ensures text { Appends P.provided self.old asker seen.old
+            (array_type t.now) w.old w.new result }
     {
         let elements = self.elements_of(asker, t)?;
         self.emit_plain_caught(asker, w, &elements.found, seen)?;
@@ -160,9 +160,8 @@ impl<'a, 's, P: ModuleProvider> TypePrinter<'a, 's, P> {
         requires { length seen.old.path.now.items ≤ 1024 }
         ensures same { self.new ≡ self.old }
         ensures level { KeepsLevel seen.old seen.new }
-        ensures text { PrintsType P.provided self.old asker seen.old
-            (λ env visit path w. caught (plain_text env visit path (shape found.now) w))
-            w.old w.new result }
+        ensures text { Appends P.provided self.old asker seen.old
+            (plain_caught (shape found.now)) w.old w.new result }
     {
         match self.emit_plain(asker, w, found, seen) {
             Err(Stop::ByError(Error::PdbError(pdb_container::Error::TypeNotFound(index)))) => {
@@ -184,8 +183,8 @@ impl<'a, 's, P: ModuleProvider> TypePrinter<'a, 's, P> {
         requires { length seen.old.path.now.items ≤ 1024 }
         ensures same { self.new ≡ self.old }
         ensures level { KeepsLevel seen.old seen.new }
-        ensures text { PrintsType P.provided self.old asker seen.old
-            (λ env visit path. plain_text env visit path (shape found.now)) w.old w.new result }
+        ensures text { Appends P.provided self.old asker seen.old
+            (plain_text (shape found.now)) w.old w.new result }
     {
         match found {
             TypeData::Primitive(t) => emit_primitive(w, self.flags, *t, false),
@@ -218,10 +217,8 @@ impl<'a, 's, P: ModuleProvider> TypePrinter<'a, 's, P> {
         requires { length seen.old.path.now.items ≤ 1024 }
         ensures same { self.new ≡ self.old }
         ensures level { KeepsLevel seen.old seen.new }
-        ensures text { PrintsType P.provided self.old asker seen.old
-            (λ env visit path. visit (PointedTo [] (level_of_pointer is_constant t.now)) path
-            (t.now.underlying_type).0)
-            w.old w.new result }
+        ensures text { Appends P.provided self.old asker seen.old
+            (pointer_type is_constant t.now) w.old w.new result }
     {
         let mut before = Vec::new(asker.alloc);
         self.emit_pointee(
@@ -246,9 +243,8 @@ impl<'a, 's, P: ModuleProvider> TypePrinter<'a, 's, P> {
         requires { length seen.old.path.now.items ≤ 1024 }
         ensures same { self.new ≡ self.old }
         ensures level { KeepsLevel seen.old seen.new }
-        ensures text { PrintsType P.provided self.old asker seen.old
-            (λ env visit path. plain_text env visit path (Plain (forms.MemberFunction t.now)))
-            w.old w.new result }
+        ensures text { Appends P.provided self.old asker seen.old
+            (method_type t.now) w.old w.new result }
     {
         self.maybe_emit_return_type(asker, w, Some(t.return_type), t.attributes, seen)?;
         emit_bare_method(w)?;
@@ -267,9 +263,8 @@ impl<'a, 's, P: ModuleProvider> TypePrinter<'a, 's, P> {
         requires { length seen.old.path.now.items ≤ 1024 }
         ensures same { self.new ≡ self.old }
         ensures level { KeepsLevel seen.old seen.new }
-        ensures text { PrintsType P.provided self.old asker seen.old
-            (λ env visit path. plain_text env visit path (Plain (forms.Procedure t.now)))
-            w.old w.new result }
+        ensures text { Appends P.provided self.old asker seen.old
+            (procedure_type t.now) w.old w.new result }
     {
         self.maybe_emit_return_type(asker, w, t.return_type, t.attributes, seen)?;
         emit_bare_function(w)?;
@@ -292,8 +287,8 @@ impl<'a, 's, P: ModuleProvider> TypePrinter<'a, 's, P> {
         requires { length seen.old.path.now.items ≤ 1024 }
         ensures same { self.new ≡ self.old }
         ensures level { KeepsLevel seen.old seen.new }
-        ensures text { PrintsType P.provided self.old asker seen.old
-            (λ env visit path. returned_unless env visit path index attributes) w.old w.new result }
+        ensures text { Appends P.provided self.old asker seen.old
+            (returned_unless index attributes) w.old w.new result }
     {
         let shown = shown_return(self.flags, index, attributes, false);
         self.emit_shown_return(asker, w, shown, seen)
@@ -313,8 +308,8 @@ impl<'a, 's, P: ModuleProvider> TypePrinter<'a, 's, P> {
         requires { length seen.old.path.now.items ≤ 1024 }
         ensures same { self.new ≡ self.old }
         ensures level { KeepsLevel seen.old seen.new }
-        ensures text { PrintsType P.provided self.old asker seen.old
-            (λ env visit path. returned visit path index attributes) w.old w.new result }
+        ensures text { Appends P.provided self.old asker seen.old
+            (returned index attributes) w.old w.new result }
     {
         let shown = shown_return(self.flags, index, attributes, true);
         self.emit_shown_return(asker, w, shown, seen)
@@ -332,8 +327,8 @@ impl<'a, 's, P: ModuleProvider> TypePrinter<'a, 's, P> {
         requires { length seen.old.path.now.items ≤ 1024 }
         ensures same { self.new ≡ self.old }
         ensures level { KeepsLevel seen.old seen.new }
-        ensures text { PrintsType P.provided self.old asker seen.old
-            (λ env visit path. shown_text visit path shown) w.old w.new result }
+        ensures text { Appends P.provided self.old asker seen.old
+            (shown_text shown) w.old w.new result }
     {
         let Some(index) = shown else {
             return Ok(());
@@ -358,9 +353,8 @@ impl<'a, 's, P: ModuleProvider> TypePrinter<'a, 's, P> {
         requires { length seen.old.path.now.items ≤ 1024 }
         ensures same { self.new ≡ self.old }
         ensures level { KeepsLevel seen.old seen.new }
-        ensures text { PrintsType P.provided self.old asker seen.old
-            (λ env visit path. method_arguments env visit path t.now says_constant)
-            w.old w.new result }
+        ensures text { Appends P.provided self.old asker seen.old
+            (method_arguments t.now says_constant) w.old w.new result }
     {
         if leaves_out_arguments(self.flags) {
             return Ok(());
@@ -381,9 +375,8 @@ impl<'a, 's, P: ModuleProvider> TypePrinter<'a, 's, P> {
         requires { length seen.old.path.now.items ≤ 1024 }
         ensures same { self.new ≡ self.old }
         ensures level { KeepsLevel seen.old seen.new }
-        ensures text { PrintsType P.provided self.old asker seen.old
-            (λ env visit path. visit (arguments_of t.now says_constant) path
-            t.now.argument_list.0) w.old w.new result }
+        ensures text { Appends P.provided self.old asker seen.old
+            (method_list t.now says_constant) w.old w.new result }
     {
         let mut level = Seen::new(&mut *seen.path);
         level.insert(t.argument_list.0)?;
@@ -404,9 +397,8 @@ impl<'a, 's, P: ModuleProvider> TypePrinter<'a, 's, P> {
         requires { length seen.old.path.now.items ≤ 1024 }
         ensures same { self.new ≡ self.old }
         ensures level { KeepsLevel seen.old seen.new }
-        ensures text { PrintsType P.provided self.old asker seen.old
-            (λ env visit path. inside_text env (arguments_of t.now says_constant) path
-            t.now.argument_list.0) w.old w.new result }
+        ensures text { Appends P.provided self.old asker seen.old
+            (method_list_inside t.now says_constant) w.old w.new result }
     {
         let TypeData::ArgumentList(list) = self.read(asker, t.argument_list)? else {
             return Err(Stop::ByError(Error::ArgumentTypeNotArgumentList));
@@ -430,9 +422,8 @@ impl<'a, 's, P: ModuleProvider> TypePrinter<'a, 's, P> {
         requires { length seen.old.path.now.items ≤ 1024 }
         ensures same { self.new ≡ self.old }
         ensures level { KeepsLevel seen.old seen.new }
-        ensures text { PrintsType P.provided self.old asker seen.old
-            (λ env visit path. in_brackets env visit path says_constant list.now this)
-            w.old w.new result }
+        ensures text { Appends P.provided self.old asker seen.old
+            (in_brackets says_constant list.now this) w.old w.new result }
     {
         let (is_constant, extra) = this;
         emit(w, "(")?;
@@ -454,8 +445,8 @@ impl<'a, 's, P: ModuleProvider> TypePrinter<'a, 's, P> {
         requires { length seen.old.path.now.items ≤ 1024 }
         ensures same { self.new ≡ self.old }
         ensures level { KeepsLevel seen.old seen.new }
-        ensures text { PrintsType P.provided self.old asker seen.old
-            (λ env visit path. visit (Modified is_constant) path index.0) w.old w.new result }
+        ensures text { Appends P.provided self.old asker seen.old
+            (modified is_constant index) w.old w.new result }
     {
         let mut level = Seen::new(&mut *seen.path);
         level.insert(index.0)?;
@@ -475,9 +466,8 @@ impl<'a, 's, P: ModuleProvider> TypePrinter<'a, 's, P> {
         requires { length seen.old.path.now.items ≤ 1024 }
         ensures same { self.new ≡ self.old }
         ensures level { KeepsLevel seen.old seen.new }
-        ensures text { PrintsType P.provided self.old asker seen.old
-            (λ env visit path. inside_text env (Modified is_constant) path index.0)
-            w.old w.new result }
+        ensures text { Appends P.provided self.old asker seen.old
+            (modified_inside is_constant index) w.old w.new result }
     {
         match self.read(asker, index)? {
             TypeData::Pointer(t) => self.emit_pointer(asker, w, &t, is_constant, seen),
@@ -499,9 +489,8 @@ impl<'a, 's, P: ModuleProvider> TypePrinter<'a, 's, P> {
         requires { length seen.old.path.now.items ≤ 1024 }
         ensures same { self.new ≡ self.old }
         ensures level { KeepsLevel seen.old seen.new }
-        ensures text { PrintsType P.provided self.old asker seen.old
-            (λ env visit path. modified_text env visit path is_constant (shape found.now))
-            w.old w.new result }
+        ensures text { Appends P.provided self.old asker seen.old
+            (modified_type is_constant found.now) w.old w.new result }
     {
         emit_constant(w, is_constant)?;
         self.emit_type(asker, w, found, seen)
@@ -521,9 +510,8 @@ impl<'a, 's, P: ModuleProvider> TypePrinter<'a, 's, P> {
         requires { length seen.old.path.now.items ≤ 1024 }
         ensures same { self.new ≡ self.old }
         ensures level { KeepsLevel seen.old seen.new }
-        ensures text { PrintsType P.provided self.old asker seen.old
-            (λ env visit path. visit (PointedTo before.old.items last) path index.0)
-            w.old w.new result }
+        ensures text { Appends P.provided self.old asker seen.old
+            (pointee before.old last index) w.old w.new result }
     {
         let mut level = Seen::new(&mut *seen.path);
         level.insert(index.0)?;
@@ -544,9 +532,8 @@ impl<'a, 's, P: ModuleProvider> TypePrinter<'a, 's, P> {
         requires { length seen.old.path.now.items ≤ 1024 }
         ensures same { self.new ≡ self.old }
         ensures level { KeepsLevel seen.old seen.new }
-        ensures text { PrintsType P.provided self.old asker seen.old
-            (λ env visit path. inside_text env (PointedTo before.old.items last) path index.0)
-            w.old w.new result }
+        ensures text { Appends P.provided self.old asker seen.old
+            (pointee_inside before.old last index) w.old w.new result }
     {
         match self.read(asker, index)? {
             TypeData::Pointer(t) => {
@@ -590,9 +577,8 @@ impl<'a, 's, P: ModuleProvider> TypePrinter<'a, 's, P> {
         requires { length seen.old.path.now.items ≤ 1024 }
         ensures same { self.new ≡ self.old }
         ensures level { KeepsLevel seen.old seen.new }
-        ensures text { PrintsType P.provided self.old asker seen.old
-            (λ env visit path. visit (PointedModified before.old.items last) path index.0)
-            w.old w.new result }
+        ensures text { Appends P.provided self.old asker seen.old
+            (modified_pointee before.old last index) w.old w.new result }
     {
         let mut level = Seen::new(&mut *seen.path);
         level.insert(index.0)?;
@@ -613,9 +599,8 @@ impl<'a, 's, P: ModuleProvider> TypePrinter<'a, 's, P> {
         requires { length seen.old.path.now.items ≤ 1024 }
         ensures same { self.new ≡ self.old }
         ensures level { KeepsLevel seen.old seen.new }
-        ensures text { PrintsType P.provided self.old asker seen.old
-            (λ env visit path. inside_text env (PointedModified before.old.items last) path index.0)
-            w.old w.new result }
+        ensures text { Appends P.provided self.old asker seen.old
+            (modified_pointee_inside before.old last index) w.old w.new result }
     {
         let found = self.read(asker, index)?;
         before.push(last)?;
@@ -647,9 +632,8 @@ impl<'a, 's, P: ModuleProvider> TypePrinter<'a, 's, P> {
         requires { length seen.old.path.now.items ≤ 1024 }
         ensures same { self.new ≡ self.old }
         ensures level { KeepsLevel seen.old seen.new }
-        ensures text { PrintsType P.provided self.old asker seen.old
-            (λ env visit path. pointed_text env visit path pointers.now (shape found.now))
-            w.old w.new result }
+        ensures text { Appends P.provided self.old asker seen.old
+            (pointed_type pointers.now found.now) w.old w.new result }
     {
         match found {
             TypeData::MemberFunction(t) => self.emit_member_pointer(asker, w, pointers, t, seen),
@@ -676,10 +660,8 @@ impl<'a, 's, P: ModuleProvider> TypePrinter<'a, 's, P> {
         requires { length seen.old.path.now.items ≤ 1024 }
         ensures same { self.new ≡ self.old }
         ensures level { KeepsLevel seen.old seen.new }
-        ensures text { PrintsType P.provided self.old asker seen.old
-            (λ env visit path. pointed_text env visit path pointers.now (Plain (forms.MemberFunction
-            t.now)))
-            w.old w.new result }
+        ensures text { Appends P.provided self.old asker seen.old
+            (pointed_method pointers.now t.now) w.old w.new result }
     {
         self.emit_return_type(asker, w, Some(t.return_type), t.attributes, seen)?;
         emit(w, "(")?;
@@ -703,10 +685,8 @@ impl<'a, 's, P: ModuleProvider> TypePrinter<'a, 's, P> {
         requires { length seen.old.path.now.items ≤ 1024 }
         ensures same { self.new ≡ self.old }
         ensures level { KeepsLevel seen.old seen.new }
-        ensures text { PrintsType P.provided self.old asker seen.old
-            (λ env visit path. pointed_text env visit path pointers.now (Plain (forms.Procedure
-            t.now)))
-            w.old w.new result }
+        ensures text { Appends P.provided self.old asker seen.old
+            (pointed_procedure pointers.now t.now) w.old w.new result }
     {
         self.emit_return_type(asker, w, t.return_type, t.attributes, seen)?;
         emit(w, "(")?;

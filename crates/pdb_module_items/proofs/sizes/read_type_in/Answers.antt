@@ -1,6 +1,6 @@
 use Rattle.std.proofs.Common.{ap}
 use Rattle.std.proofs.lemmas.Result.{err_from_is_err_and}
-use Rattle.pdb_indices.specs.declared.index.TypeIndex.{TypeIndex}
+use Rattle.pdb_container.specs.declared.index.TypeIndex.{TypeIndex}
 use Rattle.pdb_resolving.proofs.Lifting.{given_fails}
 use Rattle.pdb_module_items.specs.Reading.{type_in}
 use Rattle.pdb_module_items.proofs.sizes.read_type_in.Goals as goal

@@ -1,10 +1,10 @@
 use Rattle.std.proofs.Common.{◌≡◌, ℕ, false, [], ◌∷◌, ◌++◌, string_bytes, refl, sym, ap, subst, ◌∙◌}
 use Rattle.std.specs.Prelude.{Option}
 use Rattle.std.proofs.lemmas.Result.{err_from_is_err_and}
-use Rattle.pdb_indices.specs.declared.index.TypeIndex.{TypeIndex}
-use Rattle.pdb_type_pieces.specs.Paths.{room}
-use Rattle.pdb_type_pieces.specs.Printed.{Printed, Prints, Stops}
-use Rattle.pdb_type_pieces.specs.Returns.{shown_return}
+use Rattle.pdb_container.specs.declared.index.TypeIndex.{TypeIndex}
+use Rattle.pdb_type_printing.specs.Paths.{room}
+use Rattle.pdb_type_printing.specs.Printed.{Printed, Prints, Stops}
+use Rattle.pdb_type_printing.specs.Returns.{shown_return}
 use Rattle.pdb_type_printing.proofs.Copies.{stops_in_copy, copied, first_stops, first_goes_on}
 use Rattle.pdb_type_printing.proofs.Copies.{run_stops, run_goes_on}
 use Rattle.pdb_type_printing.proofs.Failing.{fails_stops, sure_stops}
@@ -233,9 +233,10 @@ maybe_emit_return_type-returns-clause-text g t c =
     (visiting (env_of g.P.ModuleProvider.provided c.args.self.now c.args.asker.module_index)
     c.args.seen.now.path.now.items) c.args.seen.now.path.now.items c.args.index
     c.args.attributes (string_bytes c.args.w.now)
-    ∙ ap (λ (o : Option TypeIndex). shown_text
+    ∙ ap (λ (o : Option TypeIndex). shown_text o
+    (env_of g.P.ModuleProvider.provided c.args.self.now c.args.asker.module_index)
     (visiting (env_of g.P.ModuleProvider.provided c.args.self.now c.args.asker.module_index)
-    c.args.seen.now.path.now.items) c.args.seen.now.path.now.items o
+    c.args.seen.now.path.now.items) c.args.seen.now.path.now.items
     (string_bytes c.args.w.now)) (sym shown))) c.emit_shown_return.ensures.text
 
 pub emit_return_type-returns-clause-text : goal.emit_return_type-returns-clause-text
@@ -243,13 +244,16 @@ emit_return_type-returns-clause-text g t c =
     subst (λ (x : Printed). Prints c.emit_shown_return.result
     (string_bytes c.emit_shown_return.new.w) x)
     (sym
-    (shown_behind c.self.inside.flags.bits
+    (shown_behind
+    (env_of g.P.ModuleProvider.provided c.args.self.now c.args.asker.module_index)
+    c.self.inside.flags.bits
     (visiting (env_of g.P.ModuleProvider.provided c.args.self.now c.args.asker.module_index)
     c.args.seen.now.path.now.items) c.args.seen.now.path.now.items c.args.index
     c.args.attributes (string_bytes c.args.w.now)
-    ∙ ap (λ (o : Option TypeIndex). shown_text
+    ∙ ap (λ (o : Option TypeIndex). shown_text o
+    (env_of g.P.ModuleProvider.provided c.args.self.now c.args.asker.module_index)
     (visiting (env_of g.P.ModuleProvider.provided c.args.self.now c.args.asker.module_index)
-    c.args.seen.now.path.now.items) c.args.seen.now.path.now.items o
+    c.args.seen.now.path.now.items) c.args.seen.now.path.now.items
     (string_bytes c.args.w.now)) (sym c.shown_return-shown.ensures)))
     c.emit_shown_return.ensures.text
 

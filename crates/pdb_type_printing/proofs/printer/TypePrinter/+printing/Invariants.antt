@@ -1,6 +1,6 @@
 use Rattle.std.proofs.Common.{◌≡◌, ◌+◌, ◌*◌, length, string_bytes}
 use Rattle.pdb_type_printing.specs.Level.{KeepsLevel}
-use Rattle.pdb_type_pieces.specs.Paths.{room}
+use Rattle.pdb_type_printing.specs.Paths.{room}
 use Rattle.pdb_type_printing.specs.Types.{visiting, more_arguments}
 use Rattle.pdb_type_printing.specs.Printing.{env_of}
 use Rattle.pdb_type_printing.proofs.printer.TypePrinter.+printing.Given as goal
@@ -111,10 +111,10 @@ abbrev pub invariant-emit_more_arguments-loop-run : goal.invariant-emit_more_arg
 invariant-emit_more_arguments-loop-run g l = record {
   same : l.self ≡ l.fn.self;
   level : KeepsLevel l.fn.seen l.seen;
-  text : more_arguments (env_of g.P.ModuleProvider.provided l.fn.self l.asker.module_index)
+  text : more_arguments l.rest (env_of g.P.ModuleProvider.provided l.fn.self l.asker.module_index)
       (visiting (env_of g.P.ModuleProvider.provided l.fn.self l.asker.module_index)
-      l.fn.seen.path.now.items) l.fn.seen.path.now.items l.rest (string_bytes l.w)
-      ≡ more_arguments (env_of g.P.ModuleProvider.provided l.fn.self l.asker.module_index)
+      l.fn.seen.path.now.items) l.fn.seen.path.now.items (string_bytes l.w)
+      ≡ more_arguments l.list (env_of g.P.ModuleProvider.provided l.fn.self l.asker.module_index)
       (visiting (env_of g.P.ModuleProvider.provided l.fn.self l.asker.module_index)
-      l.fn.seen.path.now.items) l.fn.seen.path.now.items l.list (string_bytes l.fn.w);
+      l.fn.seen.path.now.items) l.fn.seen.path.now.items (string_bytes l.fn.w);
 }

@@ -3,7 +3,7 @@ use Rattle.std.proofs.lemmas.Grind.{common_steps}
 use Rattle.std.proofs.lemmas.Result.{err_from_is_err_and}
 use Rattle.pdb_records.specs.Shapes.{shape}
 use Rattle.pdb_resolving.specs.Cause.{Ends}
-use Rattle.pdb_type_pieces.specs.Paths.{is_on}
+use Rattle.pdb_type_printing.specs.Paths.{is_on}
 use Rattle.std.specs.Prelude.{Some, None}
 use Rattle.pdb_type_printing.specs.Arrays.{array_step}
 use Rattle.pdb_type_printing.specs.Printing.{env_of}

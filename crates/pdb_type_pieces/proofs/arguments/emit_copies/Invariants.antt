@@ -1,6 +1,0 @@
-use Rattle.std.proofs.Common.{◌≡◌, ◌++◌, string_bytes}
-use Rattle.pdb_type_pieces.specs.Arguments.{copies}
-use Rattle.pdb_type_pieces.proofs.arguments.emit_copies.Given as goal
-
-abbrev pub invariant-loop : goal.invariant-loop
-invariant-loop l = string_bytes l.w ≡ string_bytes l.fn.w ++ copies l.flags.bits l.argument l.counter

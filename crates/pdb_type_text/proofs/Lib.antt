@@ -1,5 +1,0 @@
-pub mod Failing
-pub mod Leaving
-pub mod PrintingFails
-pub mod Scopes
-pub mod VisitsOfIds
