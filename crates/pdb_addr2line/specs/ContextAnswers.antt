@@ -1,13 +1,13 @@
 -- What a context answers, and what a question leaves of it.
-use Rattle.std.specs.Prelude.{◌≡◌, ℕ, List, Option, Some, Result, IfOk, is_some}
+use Rattle.std.specs.Prelude.{◌≡◌, ℕ, List, Option, Some, Result, IfOk, is_some, drop}
 use Rattle.pdb_addresses.specs.declared.internal_section_offset.PdbInternalSectionOffset.{
   PdbInternalSectionOffset,
 }
 use Rattle.pdb_resolving.specs.declared.error.Error.{Error}
-use Rattle.pdb_resolving.specs.Fault.{Fault}
+use Rattle.pdb_resolving.specs.Fault.{Answers, Fault}
 use Rattle.pdb_resolving.specs.Resolving.{Provided}
 use Rattle.pdb_answers.specs.Choice.{held_at}
-use Rattle.pdb_answers.specs.FailingParts.{failed_after, told}
+use Rattle.pdb_answers.specs.FailingParts.{Failures, failed_after, told}
 use Rattle.pdb_frames.specs.Failing.{Part, failing, failing_if_held}
 use Rattle.pdb_frames.specs.Files.{file_here, files_keyed, files_of}
 use Rattle.pdb_frames.specs.FrameRuns.{frames_here, frames_of_places, readable}
@@ -22,7 +22,8 @@ use Rattle.pdb_owners.specs.FileAnswers.{FileAnswer}
 use Rattle.pdb_owners.specs.Frames.{FunctionFrames}
 use Rattle.pdb_owners.specs.FunctionOrder.{Function}
 use Rattle.pdb_addr2line.specs.Context.{Context, lookups_after, scope_in}
-use Rattle.pdb_addr2line.specs.FunctionList.{AreFunctions, FunctionsLeft, functions_left}
+use Rattle.pdb_addr2line.specs.FunctionList.{AreFunctions, FunctionsLeft, GivesFunction}
+use Rattle.pdb_addr2line.specs.FunctionList.{functions_left}
 use Rattle.pdb_addr2line.specs.Starts.{start_addresses}
 
 -- ---- at an address
@@ -117,10 +118,30 @@ starts_in provided c = start_addresses c.parts (scope_in provided c) (entries_of
 abbrev pub left_in : {P : Type 0} → (P → Provided) → Context P → List ℕ → FunctionsLeft
 left_in provided c addresses = functions_left c.parts (scope_in provided c) addresses
 
+-- A call gave a context's next function at addresses, from one place of their list on, and went on
+-- to another.
+abbrev pub GivesNext : {P : Type 0} → (P → Provided) → Context P → List ℕ → ℕ
+    → Option (Result Function Error) → ℕ → Type 0
+GivesNext provided c addresses old result new =
+    GivesFunction (left_in provided c (drop old addresses)) result
+    (left_in provided c (drop new addresses))
+
 -- the functions of a context
 abbrev pub AreFunctionsOf : {P : Type 0} → (P → Provided) → Context P → List Function → Type 0
 AreFunctionsOf provided c functions =
     AreFunctions c.parts (scope_in provided c) (entries_of c.formatting) functions
+
+-- ---- answers in another form
+
+-- what one call answers another one answers, too, unless memory is short
+abbrev pub AnswersAlike : {X Y : Type 0} → (X → Y) → Result X Error → Result X Error → Type 0
+AnswersAlike {X} {Y} view found result =
+    (spec : Result Y Fault) → Answers view found spec → Answers view result spec
+
+-- both leave the same parts as failed
+abbrev pub FailsAlike : {A B : Type 0} → Result A Error → Result B Error → Type 0
+FailsAlike result found = (part : Option Part) (f : Failures)
+    → failed_after part result f ≡ failed_after part found f
 
 -- ---- what a question leaves
 

@@ -1,5 +1,6 @@
 -- A formatter and a context over what is held of a database.
-use Rattle.std.specs.Prelude.{ℕ, List, Result}
+use Rattle.std.specs.Prelude.{ℕ, List, Result, Ok}
+use Rattle.pdb_answers.specs.Choice.{Parts}
 use Rattle.pdb_loading.specs.declared.order.ContributionOrder.{ContributionOrder}
 use Rattle.pdb_loading.specs.Held.{Held, parts_held, parts_held_with}
 use Rattle.pdb_loading.specs.ModuleInfos.{KeptInfo}
@@ -41,6 +42,13 @@ formatting_of h flags = record { reading = reading_of h; flags = flags }
 -- a context over what is held, whose formatter has these flags
 abbrev pub context_in : Held → ℕ → Result (Context (List KeptInfo)) Fault
 context_in h flags = context_over h.infos (formatting_of h flags) (parts_held h)
+
+-- a context over parts that were made before, with other modules in place of what is held of them;
+-- its formatter has these flags
+abbrev pub context_of_modules : Held → List KeptInfo → ℕ → Parts
+    → Result (Context (List KeptInfo)) Fault
+context_of_modules h infos flags parts =
+    context_over infos (formatting_of (with_modules h infos) flags) (Ok parts)
 
 -- a context over what is held, where section contributions have to stand in this order; its
 -- formatter has these flags

@@ -1,6 +1,6 @@
 -- The functions of a file in the order of their addresses.
 use Rattle.std.specs.Prelude.{◌≡◌, ℕ, ◌+◌, ◌-◌, ◌^◌, ◌≤◌, min, List, [], ◌∷◌, length, Option, None}
-use Rattle.std.specs.Prelude.{Some, Result, Ok, Err}
+use Rattle.std.specs.Prelude.{Some, Result, Ok, Err, drop}
 use Rattle.std.specs.Borrow.{MutBor}
 use Rattle.std.specs.List.{flat_map}
 use Rattle.pdb_symbols_modules.specs.Modules.{Module}
@@ -53,6 +53,10 @@ GivesFunction old (Some (Err e)) new = ⊥
 pub record FunctionIteration (P : Type 0) : Type 0 where
   pub context : MutBor (Context P)
   pub left : FunctionsLeft
+
+-- how many of numbers lie from one place of their list on and before another
+abbrev pub passed : List ℕ → ℕ → ℕ → ℕ
+passed numbers old new = length (drop old numbers) - length (drop new numbers)
 
 -- a count of 64 bits, which ends at 2^64 - 1, never falls and rises by no more than this
 pub record RisesWithin (most old new : ℕ) : Type 0 where

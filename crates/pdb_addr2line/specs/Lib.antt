@@ -1,7 +1,13 @@
+pub mod Answer
 pub mod Context
 pub mod ContextAnswers
+pub mod FileAnswers
+pub mod FileFormatters
+pub mod FileFrames
+pub mod FileLoads
 pub mod Formatters
 pub mod FunctionList
+pub mod Identity
 pub mod ModulesAt
 pub mod Refused
 pub mod Starts
@@ -16,6 +22,7 @@ pub use Rattle.pdb_answers.specs.Printing
 pub use Rattle.pdb_answers.specs.Runs
 pub use Rattle.pdb_answers.specs.Scopes
 pub use Rattle.pdb_loading.specs.Held
+pub use Rattle.pdb_loading.specs.LoadFaults
 pub use Rattle.pdb_loading.specs.Loading
 pub use Rattle.pdb_loading.specs.ModuleInfos
 pub use Rattle.pdb_loading.specs.Provided

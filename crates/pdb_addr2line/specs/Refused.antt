@@ -4,6 +4,10 @@ use Rattle.pdb_container.specs.declared.error.Error.TheVariants as causes
 use Rattle.pdb_container.specs.Fault.{Fault, fault_of, IsOutside, HasRisen}
 use Rattle.pdb_resolving.specs.declared.error.Error.{Error}
 use Rattle.pdb_resolving.specs.declared.error.Error.TheVariants as errors
+use Rattle.pdb_loading.specs.Held.{Held, read_in}
+use Rattle.pdb_loading.specs.Loading.{DatabaseRead, database_read}
+use Rattle.pdb_symbols_modules.specs.Shared.{shared}
+use Rattle.pdb_symbols_modules.specs.Streams.{streams}
 
 -- A source may fail: some state of it with the same bytes has counted more failures.
 abbrev pub CanFail : {S : Type 0} → (S → List ℕ) → (S → ℕ) → S → Type 0
@@ -23,3 +27,12 @@ Refuses failed e read = ⊥
 abbrev pub Loads : {X Y : Type 0} → (X → Y) → Type 0 → Result X Error → Result Y Fault → Type 0
 Loads view failed (Ok x) read = read ≡ Ok (view x)
 Loads view failed (Err e) read = Refuses failed e read
+
+-- what is read in order of a database, by the bytes of its file
+abbrev pub read_of_file : List ℕ → Result DatabaseRead Fault
+read_of_file file = database_read (shared (streams file))
+
+-- A call read a database in order, unless memory was short or its source failed meanwhile.
+abbrev pub LoadsFrom : {S : Type 0} → (S → List ℕ) → (S → ℕ) → S → S → Result Held Error → Type 0
+LoadsFrom bytes failures old new result =
+    Loads read_in (HasRisen (failures old) (failures new)) result (read_of_file (bytes old))

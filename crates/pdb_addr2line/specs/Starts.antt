@@ -1,6 +1,7 @@
 -- Where functions begin: the image addresses of public entries and of all modules' procedures.
 use Rattle.std.specs.Prelude.{◌≡◌, ℕ, ◌+◌, ◌==◌, Bool, List, [], ◌∷◌, ◌++◌, map, Option, None, Some}
-use Rattle.std.specs.Prelude.{Result, OnOk}
+use Rattle.std.specs.Prelude.{Result, OnOk, option_map}
+use Rattle.std.specs.Global.{Vec}
 use Rattle.std.specs.List.{flat_map, list_any}
 use Rattle.std.specs.List.Sorted.{IsStrictlySortedBy}
 use Rattle.std.specs.Ordering.{nat_cmp}
@@ -8,6 +9,8 @@ use Rattle.pdb_addresses.specs.declared.internal_section_offset.PdbInternalSecti
   PdbInternalSectionOffset,
 }
 use Rattle.pdb_addresses.specs.Addresses.{Map, outer_of_place}
+use Rattle.pdb_contributions.specs.Publics.{PublicFunction}
+use Rattle.pdb_module_data.specs.Procedures.{Procedure}
 use Rattle.pdb_symbols_modules.specs.Modules.{Module}
 use Rattle.pdb_answers.specs.KnownModules.{module_data, procedures_in}
 use Rattle.pdb_answers.specs.Choice.{Parts}
@@ -20,28 +23,52 @@ abbrev pub if_any : {A : Type 0} → Option A → List A
 if_any None = []
 if_any (Some x) = x ∷ []
 
+-- the image address of a place, if it has one, as a list
+abbrev pub address_of : Map → PdbInternalSectionOffset → List ℕ
+address_of map p = if_any (outer_of_place map p.section p.offset)
+
 -- the image addresses of places, of those that have one
 abbrev pub addresses_of : Map → List PdbInternalSectionOffset → List ℕ
-addresses_of map places = flat_map (λ p. if_any (outer_of_place map p.section p.offset)) places
+addresses_of map places = flat_map (λ p. address_of map p) places
+
+-- where public entries begin
+abbrev pub public_starts : List PublicFunction → List PdbInternalSectionOffset
+public_starts publics = map (λ f. f.start_offset) publics
+
+-- where procedures begin
+abbrev pub starts_of : List Procedure → List PdbInternalSectionOffset
+starts_of procedures = map (λ q. q.offset) procedures
 
 -- where the procedures of modules begin, from the module with that index on
 abbrev pub procedure_starts_from : (ℕ → Scope) → ℕ → List Module → List PdbInternalSectionOffset
 procedure_starts_from scope number [] = []
 procedure_starts_from scope number (entry ∷ entries) =
-    map (λ q. q.offset) (procedures_in (module_data (scope number).own))
+    starts_of (procedures_in (module_data (scope number).own))
     ++ procedure_starts_from scope (number + 1) entries
 
 -- where public entries and procedures begin, as image addresses
 abbrev pub start_addresses : Parts → (ℕ → Scope) → List Module → List ℕ
 start_addresses p scope entries =
-    addresses_of p.map (map (λ f. f.start_offset) p.publics)
+    addresses_of p.map (public_starts p.publics)
     ++ addresses_of p.map (procedure_starts_from scope 0 entries)
 
 -- where the procedures of a module begin
 abbrev pub procedure_starts : Scope → List PdbInternalSectionOffset
-procedure_starts scope = map (λ q. q.offset) (procedures_in (module_data scope.own))
+procedure_starts scope = starts_of (procedures_in (module_data scope.own))
 
--- the same image addresses by what gives the modules and what names are made of
+-- the same by what gives the modules and what names are made of: of the module with that index
+abbrev pub module_starts : {P : Type 0} → (P → Provided) → P → Formatting P → ℕ
+    → List PdbInternalSectionOffset
+module_starts provided provider formatting m =
+    procedure_starts (scope_of provided provider formatting m)
+
+-- and of all modules
+abbrev pub all_starts : {P : Type 0} → (P → Provided) → P → Formatting P
+    → List PdbInternalSectionOffset
+all_starts provided provider formatting =
+    procedure_starts_from (scope_of provided provider formatting) 0 (entries_of formatting)
+
+-- the image addresses by what gives the modules and what names are made of
 abbrev pub starts_given : {P : Type 0} → (P → Provided) → P → Parts → Formatting P → List ℕ
 starts_given provided provider parts formatting =
     start_addresses parts (scope_of provided provider formatting) (entries_of formatting)
@@ -51,6 +78,12 @@ abbrev pub AppendsAddresses : {A E : Type 0} → Result A E → Map → List ℕ
     → List PdbInternalSectionOffset → Type 0
 AppendsAddresses result map before after places =
     OnOk result (after ≡ before ++ addresses_of map places)
+
+-- the same of a vector
+abbrev pub Appends : {A E : Type 0} → Result A E → Map → Vec ℕ → Vec ℕ
+    → List PdbInternalSectionOffset → Type 0
+Appends result map before after places =
+    AppendsAddresses result map before.items after.items places
 
 -- a number is among others
 abbrev pub is_among : List ℕ → ℕ → Bool
@@ -65,3 +98,7 @@ pub record IsAscending (numbers ascending : List ℕ) : Type 0 where
 abbrev pub AreStarts : List ℕ → Option (List ℕ) → Type 0
 AreStarts numbers None = Unit {0}
 AreStarts numbers (Some starts) = IsAscending numbers starts
+
+-- the same of a vector
+abbrev pub AreKeptStarts : List ℕ → Option (Vec ℕ) → Type 0
+AreKeptStarts numbers kept = AreStarts numbers (option_map (λ v. v.items) kept)

@@ -1,30 +1,29 @@
 //! A context: answers about addresses of an image.
 
 ghost use Rattle.std.specs.Prelude.{◌≡◌, ◌≤◌, true, Ok, length};
-ghost use Rattle.std.specs.Prelude.{option_and_then, option_copied, Option, Result as Answer};
+ghost use Rattle.std.specs.Prelude.{option_copied};
 ghost use Rattle.pdb_addresses.specs.Addresses.{IsOrdered};
-ghost use Rattle.pdb_resolving.specs.Fault.{Answers, Fault};
+ghost use Rattle.pdb_resolving.specs.Fault.{Answers};
 ghost use Rattle.pdb_answers.specs.Choice.{place_of};
+ghost use Rattle.pdb_answers.specs.PlaceAnswers.{GivesKey};
 ghost use Rattle.pdb_addr2line.specs.Context.{MakesContext, context_from, context_over, lasting};
 ghost use Rattle.pdb_addr2line.specs.Context.{lookups_after, uncounted};
-ghost use Rattle.pdb_addr2line.specs.ContextAnswers.{CountsLookup, IsRunOf, StoresFailed};
+ghost use Rattle.pdb_addr2line.specs.ContextAnswers.{AnswersAlike, CountsLookup, FailsAlike};
+ghost use Rattle.pdb_addr2line.specs.ContextAnswers.{IsRunOf, StoresFailed};
 ghost use Rattle.pdb_addr2line.specs.ContextAnswers.{database_in, failing_of, failing_on};
 ghost use Rattle.pdb_addr2line.specs.ContextAnswers.{function_of, function_of_key, function_on};
 ghost use Rattle.pdb_addr2line.specs.ContextAnswers.{told_of, told_on};
-ghost use Rattle.pdb_answers.specs.FailingParts.{Failures as FailedParts, failed_after};
-ghost use Rattle.pdb_frames.specs.Failing.{Part};
-ghost use Rattle.pdb_owners.specs.Frames.{FunctionFrames as FramesFound};
 ghost use Rattle.pdb_answers.specs.MaybeOwned.{value_of};
 
 use pdb_addresses::{AddressMap, ImageSectionHeader, PdbInternalSectionOffset, Rva};
 use pdb_answers::maybe_owned::MaybeOwned;
 use pdb_answers::{ContextParts, Namer, PlaceSymbolizer};
 use pdb_container::StringTable;
+use pdb_names::TypeFormatter;
 use pdb_owners::{Function, FunctionFrames, FunctionKey, SharedFunctionFrames};
 use pdb_resolving::{Error, ModuleProvider, Result};
 use pdb_symbol_records::SymbolTable;
 use pdb_symbols_modules::DebugInformation;
-use pdb_type_text::TypeFormatter;
 use std::alloc::Global;
 use std::marker::Model;
 
@@ -85,10 +84,8 @@ fn owned_frames<'a>(
     alloc: Global,
     found: Result<Option<SharedFunctionFrames<'a>>>,
 ) -> Result<Option<FunctionFrames<'a>>>
-    ensures failed { (part : Option Part) (f : FailedParts)
-        → failed_after part result f ≡ failed_after part found.entry f }
-    ensures frames { (spec : Answer (Option FramesFound) Fault) → Answers (λ f. f) found.entry spec
-        → Answers (λ f. f) result spec }
+    ensures failed { FailsAlike result found.entry }
+    ensures frames { AnswersAlike (λ f. f) found.entry result }
 {
     match found? {
         None => Ok(None),
@@ -329,9 +326,8 @@ impl<'a, 's, P: ModuleProvider> Context<'a, 's, P> {
         requires { 1 ≤ limit }
         ensures same { uncounted self.new ≡ uncounted self.old }
         ensures lookups { self.new.lookups ≡ lookups_after true result self.old.lookups }
-        ensures function { Answers
-            (λ run. option_and_then (function_of_key P.provided self.old) run.0) result
-            (Ok (function_on P.provided self.old offset)) }
+        ensures function { GivesKey (function_of_key P.provided self.old)
+            (function_on P.provided self.old offset) result }
         ensures count { IsRunOf (database_in P.provided self.old) offset limit result }
     {
         let run = self.symbolizer.key_run(alloc, offset, limit);

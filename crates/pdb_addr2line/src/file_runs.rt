@@ -1,6 +1,7 @@
 //! The file of a place, and how far it goes on.
 
-ghost use Rattle.std.specs.Prelude.{◌≡◌, ◌≤◌, true, Ok, option_and_then};
+ghost use Rattle.std.specs.Prelude.{◌≡◌, ◌≤◌, true, Ok};
+ghost use Rattle.pdb_answers.specs.PlaceAnswers.{GivesKey};
 ghost use Rattle.pdb_frames.specs.Files.{file_by, if_any};
 ghost use Rattle.pdb_addr2line.specs.Context.{lookups_after, uncounted};
 ghost use Rattle.pdb_addr2line.specs.ContextAnswers.{IsRunOf, file_on, files_in};
@@ -53,8 +54,8 @@ impl<'a, 's, P: ModuleProvider> Context<'a, 's, P> {
         requires { 1 ≤ limit }
         ensures same { uncounted self.new ≡ uncounted self.old }
         ensures lookups { self.new.lookups ≡ lookups_after true result self.old.lookups }
-        ensures file { Answers (λ run. option_and_then (file_by self.old.parts) run.0) result
-            (Ok (if_any (file_on P.provided self.old offset))) }
+        ensures file { GivesKey (file_by self.old.parts)
+            (if_any (file_on P.provided self.old offset)) result }
         ensures count { IsRunOf (files_in P.provided self.old) offset limit result }
     {
         let run = self.symbolizer.file_key_run(alloc, offset, limit);

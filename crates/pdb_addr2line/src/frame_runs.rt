@@ -1,10 +1,9 @@
 //! The frames at a place, and how far they go on.
 
-ghost use Rattle.std.specs.Prelude.{◌≡◌, ◌≤◌, true, IfOk, Ok, Option, Result as Answer};
+ghost use Rattle.std.specs.Prelude.{◌≡◌, ◌≤◌, true, IfOk, Ok};
 ghost use Rattle.pdb_addr2line.specs.Context.{lookups_after, uncounted};
-ghost use Rattle.pdb_addr2line.specs.ContextAnswers.{IsRunOf, frames_in, frames_on};
-ghost use Rattle.pdb_owners.specs.Frames.{FunctionFrames as FramesFound};
-ghost use Rattle.pdb_resolving.specs.Fault.{Answers, Fault};
+ghost use Rattle.pdb_addr2line.specs.ContextAnswers.{AnswersAlike, IsRunOf, frames_in, frames_on};
+ghost use Rattle.pdb_resolving.specs.Fault.{Answers};
 
 use crate::context::Context;
 use pdb_addresses::PdbInternalSectionOffset;
@@ -17,8 +16,7 @@ fn owned_run<'a>(
     alloc: Global,
     run: Result<(Option<SharedFunctionFrames<'a>>, u32)>,
 ) -> Result<(Option<FunctionFrames<'a>>, u32)>
-    ensures frames { (spec : Answer (Option FramesFound) Fault)
-        → Answers (λ run. run.0) run.entry spec → Answers (λ run. run.0) result spec }
+    ensures frames { AnswersAlike (λ run. run.0) run.entry result }
     ensures same { IfOk result (λ owned. run.entry ≡ Ok owned) }
 {
     let (frames, count) = run?;

@@ -1,10 +1,10 @@
 //! Where functions begin: the RVAs of the public list's entries and of all modules' procedures.
 
-ghost use Rattle.std.specs.Prelude.{◌≡◌, ◌++◌, IfOk, OnOk, map, option_map};
-ghost use Rattle.pdb_addresses.specs.Addresses.{IsOrdered, outer_of_place};
-ghost use Rattle.pdb_frames.specs.Scopes.{scope_of, entries_of};
-ghost use Rattle.pdb_addr2line.specs.Starts.{AppendsAddresses, AreStarts, IsAscending, if_any};
-ghost use Rattle.pdb_addr2line.specs.Starts.{procedure_starts, procedure_starts_from, starts_given};
+ghost use Rattle.std.specs.Prelude.{◌≡◌, ◌++◌, IfOk, OnOk};
+ghost use Rattle.pdb_addresses.specs.Addresses.{IsOrdered};
+ghost use Rattle.pdb_addr2line.specs.Starts.{Appends, AreKeptStarts, IsAscending, address_of};
+ghost use Rattle.pdb_addr2line.specs.Starts.{all_starts, module_starts, public_starts};
+ghost use Rattle.pdb_addr2line.specs.Starts.{starts_given, starts_of};
 
 use pdb_addresses::{AddressMap, PdbInternalSectionOffset};
 use pdb_answers::{ContextParts, Namer, get_basic_module_info, procedures_in};
@@ -21,10 +21,8 @@ fn push_address(
     place: PdbInternalSectionOffset,
 ) -> Result<(), AllocError>
     requires { IsOrdered address_map.now }
-    ensures { OnOk result
-        (addresses.new.items
-        ≡ addresses.old.items
-        ++ if_any (outer_of_place address_map.now place.section place.offset)) }
+    ensures { OnOk result (addresses.new.items
+        ≡ addresses.old.items ++ address_of address_map.now place) }
 {
     let Some(address) = place.to_rva(address_map) else {
         return Ok(());
@@ -41,8 +39,8 @@ fn push_publics(
     publics: &[PublicFunction<'_>],
 ) -> Result<(), AllocError>
     requires { IsOrdered address_map.now }
-    ensures { AppendsAddresses result address_map.now addresses.old.items addresses.new.items
-        (map (λ f. f.start_offset) publics.now) }
+    ensures { Appends result address_map.now addresses.old addresses.new
+        (public_starts publics.now) }
 {
     for public in publics {
         push_address(addresses, address_map, public.start_offset)?;
@@ -58,8 +56,8 @@ fn push_procedures(
     procedures: &[Procedure<'_>],
 ) -> Result<(), AllocError>
     requires { IsOrdered address_map.now }
-    ensures { AppendsAddresses result address_map.now addresses.old.items addresses.new.items
-        (map (λ q. q.offset) procedures.now) }
+    ensures { Appends result address_map.now addresses.old addresses.new
+        (starts_of procedures.now) }
 {
     for procedure in procedures {
         push_address(addresses, address_map, procedure.offset)?;
@@ -77,8 +75,8 @@ fn push_module<P: ModuleProvider>(
     module_index: usize,
 ) -> Result<(), AllocError>
     requires { IsOrdered address_map.now }
-    ensures { AppendsAddresses result address_map.now addresses.old.items addresses.new.items
-        (procedure_starts (scope_of P.provided provider.now namer.now module_index)) }
+    ensures { Appends result address_map.now addresses.old addresses.new
+        (module_starts P.provided provider.now namer.now module_index) }
 {
     let known = get_basic_module_info(alloc, provider, namer.modules(), module_index)?;
     push_procedures(addresses, address_map, procedures_in(&known))
@@ -94,9 +92,8 @@ fn push_modules<P: ModuleProvider>(
     namer: &Namer<'_, '_, P>,
 ) -> Result<(), AllocError>
     requires { IsOrdered address_map.now }
-    ensures { AppendsAddresses result address_map.now addresses.old.items addresses.new.items
-        (procedure_starts_from (scope_of P.provided provider.now namer.now) 0
-        (entries_of namer.now)) }
+    ensures { Appends result address_map.now addresses.old addresses.new
+        (all_starts P.provided provider.now namer.now) }
 {
     for module_index in 0..namer.modules().len() {
         push_module(alloc, addresses, address_map, provider, namer, module_index)?;
@@ -147,10 +144,9 @@ pub fn kept_starts<P: ModuleProvider>(
     parts: &ContextParts<'_, '_>,
     namer: &Namer<'_, '_, P>,
 ) -> Result<Vec<u32>, AllocError>
-    requires { AreStarts (starts_given P.provided provider.now parts.now namer.now)
-        (option_map (λ v. v.items) kept.old) }
-    ensures kept { AreStarts (starts_given P.provided provider.now parts.now namer.now)
-        (option_map (λ v. v.items) kept.new) }
+    requires { AreKeptStarts (starts_given P.provided provider.now parts.now namer.now) kept.old }
+    ensures kept { AreKeptStarts (starts_given P.provided provider.now parts.now namer.now)
+        kept.new }
     ensures starts { IfOk result
         (λ v. IsAscending (starts_given P.provided provider.now parts.now namer.now) v.items) }
 {

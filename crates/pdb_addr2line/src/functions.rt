@@ -1,10 +1,10 @@
 //! All functions of a file, in the order of their addresses.
 
-ghost use Rattle.std.specs.Prelude.{◌≡◌, ◌-◌, ◌<◌, IfOk, IsOkUnless, OnSome, length, drop};
+ghost use Rattle.std.specs.Prelude.{◌≡◌, ◌<◌, IfOk, IsOkUnless, OnSome, length, drop};
 ghost use Rattle.std.specs.Iterator.{at_most};
 ghost use Rattle.pdb_addr2line.specs.Context.{uncounted};
-ghost use Rattle.pdb_addr2line.specs.ContextAnswers.{AreFunctionsOf, left_in, starts_in};
-ghost use Rattle.pdb_addr2line.specs.FunctionList.{GivesFunction, RisesWithin, StepsOn};
+ghost use Rattle.pdb_addr2line.specs.ContextAnswers.{AreFunctionsOf, GivesNext, starts_in};
+ghost use Rattle.pdb_addr2line.specs.FunctionList.{RisesWithin, StepsOn, passed};
 ghost use Rattle.pdb_addr2line.specs.Starts.{IsAscending};
 ghost use Rattle.pdb_resolving.specs.declared.error.Error.TheVariants as errors;
 
@@ -49,11 +49,9 @@ fn next_function<P: ModuleProvider>(
     next: &mut usize,
 ) -> Option<Result<Function>>
     ensures same { uncounted context.new ≡ uncounted context.old }
-    ensures lookups { RisesWithin
-        (length (drop next.old starts.now) - length (drop next.new starts.now))
+    ensures lookups { RisesWithin (passed starts.now next.old next.new)
         context.old.lookups context.new.lookups }
-    ensures gives { GivesFunction (left_in P.provided context.old (drop next.old starts.now)) result
-        (left_in P.provided context.old (drop next.new starts.now)) }
+    ensures gives { GivesNext P.provided context.old starts.now next.old result next.new }
     ensures nearer { OnSome result
         (length (drop next.new starts.now) < length (drop next.old starts.now)) }
 {

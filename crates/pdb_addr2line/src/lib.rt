@@ -1,14 +1,16 @@
-//! What is held of a program database, and the formatters of types and contexts that are made of
-//! it. Of a context, what was read of a module or a procedure, the names of functions and where
-//! functions begin are cached; what was asked before shows in no answer.
+//! Program databases, each loaded once, by its bytes ([`Symbolizer`]) or by a file that is read on
+//! demand ([`FileSymbolizer`]); and what is made of what is held of them: formatters of types, and
+//! contexts, which answer their addresses. Of a context, what was read of a module or a procedure,
+//! the names of functions and where functions begin are cached; what was asked before shows in no
+//! answer.
 //!
-//! What a context caches may change. Answers may not, nor the names of calls, which are those of
-//! the crate pdb-addr2line where it has them.
+//! How much of a file is read, how often it is asked again and what a context caches may change.
+//! Which fault keeps a file from being loaded may not, nor may answers, nor the names of calls,
+//! which are those of the crate pdb-addr2line where it has them.
 //!
-//! A database is read once, and modules of a file when they are first asked for
-//! ([`ContextPdbData`]); contexts and formatters are made of what is held then. `Symbolizer` of
-//! `pdb_databases` does so for a file, and refuses one whose address map is out of order. A context
-//! is asked:
+//! A symbolizer refuses a database whose address map is out of order. A [`ContextPdbData`] is read
+//! once over any source, and modules of a file when they are first asked for; contexts and
+//! formatters are made of what is held then. A context is asked:
 //!
 //! ```rust
 //! if let Some(found) = context.find_frames(rt.alloc(), address)? {
@@ -25,8 +27,25 @@
 //! let size = formatter.get_type_size(rt.alloc(), 0, TypeIndex(0x1016))?;
 //! ```
 //!
+//! Names of functions are made with the default flags, or with others:
+//!
+//! ```rust
+//! let flags = TypeFormatterFlags::default() | TypeFormatterFlags::NO_ARGUMENTS;
+//! let mut context = symbolizer.context_with_flags(rt.alloc(), flags)?;
+//! ```
+//!
 //! | to | call |
 //! |---|---|
+//! | load a file that is in memory | [`Symbolizer::open`], `open_with_order` |
+//! | have a context or a formatter over it | [`Symbolizer::context`], `type_formatter` |
+//! | load a file that is read on demand | [`FileSymbolizer::open`], `open_with_flags` |
+//! | ask it for frames | [`FileSymbolizer::find_frames`], `find_frames_run` |
+//! | have a formatter over it | [`FileSymbolizer::type_formatter`] |
+//! | ask it by what was read | `find_held_shared_frames`, then `go_on` |
+//! | ask its context more than one question | `take_context`, `put_context`, `go_on` |
+//! | ask for modules before they are needed | `ask`, `ask_between`, `ask_all` |
+//! | see which image a database belongs to | [`FileOnDemand::identity`], [`Symbolizer::identity`] |
+//! | have what is held of it | [`FileSymbolizer::held`], [`Symbolizer::held`] |
 //! | hold a file's database | [`ContextPdbData::try_from_file`] |
 //! | read a database over a source of another kind | `try_from_pdb`, `try_from_pdb_ref` |
 //! | read what a context made of parts needs | [`read_tables`], [`Context::new_from_parts`] |
@@ -52,22 +71,34 @@
 #![tactic(auto)]
 
 mod context;
+mod file_frames;
+mod file_on_demand;
 mod file_runs;
+mod file_symbolizer;
 mod frame_runs;
 mod function_starts;
 mod functions;
+mod identity;
 mod modules;
 pub mod pdb;
 mod pdb_data;
+mod symbolizer;
 
 pub use context::Context;
+pub use file_frames::FileFramesFault;
+pub use file_on_demand::FileOnDemand;
+pub use file_symbolizer::{FileContext, FileSymbolizer, Held, NotLoaded, TRIES};
 pub use functions::FunctionIter;
 pub use pdb_answers::{ContextParts, ModuleSectionContribution, maybe_owned};
 pub use pdb_data::ContextPdbData;
-pub use pdb_loading::{ContributionOrder, KeptModules, Tables, read_tables};
+pub use pdb_image::PdbIdentity;
+pub use pdb_loading::{
+    ContributionOrder, FileFault, KeptModules, LoadFault, Tables, read_file, read_tables,
+};
+pub use pdb_names::{TextWriter, TypeFormatter};
 pub use pdb_owners::{
     FileAnswer, Frame, FrameRow, Function, FunctionFrames, SharedFrame, SharedFunctionFrames,
 };
 pub use pdb_resolving::{Error, ModuleProvider, Result};
-pub use pdb_type_pieces::{Flags, TypeFormatterFlags};
-pub use pdb_type_text::{TextWriter, TypeFormatter};
+pub use pdb_type_printing::{Flags, TypeFormatterFlags};
+pub use symbolizer::Symbolizer;

@@ -76,7 +76,7 @@ impl<'a, 's, P: ModuleProvider> Context<'a, 's, P> {
     {
         let parts = self.symbolizer.parts();
         let place = place_at(parts, probe)?;
-        let held = parts.holder(place)?;
+        let held = parts.holding_contribution(place)?;
         Some(usize::from(held.module_index()))
     }
 

@@ -3,14 +3,12 @@
 ghost use Rattle.std.specs.Prelude.{◌≡◌, ◌≤◌, IfOk, IsOkUnless, Ok};
 ghost use Rattle.pdb_addresses.specs.Addresses.{IsOrdered};
 ghost use Rattle.pdb_container.specs.Fault.{HasRisen};
-ghost use Rattle.pdb_addr2line.specs.Context.{context_over};
-ghost use Rattle.pdb_addr2line.specs.Formatters.{formatting_of, context_in, context_with};
-ghost use Rattle.pdb_addr2line.specs.Formatters.{with_modules};
+ghost use Rattle.pdb_addr2line.specs.Formatters.{context_in, context_of_modules, context_with};
+ghost use Rattle.pdb_addr2line.specs.Formatters.{formatting_of, with_modules};
 ghost use Rattle.pdb_loading.specs.Held.{parts_held_with, read_in, IsOwn};
-ghost use Rattle.pdb_loading.specs.Loading.{database_read};
+ghost use Rattle.pdb_loading.specs.StreamReads.{IsOwnFrom};
 ghost use Rattle.pdb_resolving.specs.Fault.{Answers};
-ghost use Rattle.pdb_addr2line.specs.Refused.{CanFail, Loads};
-ghost use Rattle.pdb_symbols_modules.specs.Shared.{shared};
+ghost use Rattle.pdb_addr2line.specs.Refused.{CanFail, Loads, LoadsFrom, read_of_file};
 ghost use Rattle.pdb_symbols_modules.specs.Streams.{streams};
 
 use crate::context::Context;
@@ -22,11 +20,11 @@ use pdb_file_views::FileSource;
 use pdb_loading::{
     ContributionOrder, HeldDatabase, KeptModules, collect_modules, hold_database, read_database,
 };
+use pdb_names::TypeFormatter;
 use pdb_resolving::{Error, ModuleProvider};
 use pdb_symbol_records::SymbolTable;
 use pdb_symbols_modules::{DebugInformation, Module, ModuleInfo, PDB};
-use pdb_type_pieces::TypeFormatterFlags;
-use pdb_type_text::TypeFormatter;
+use pdb_type_printing::TypeFormatterFlags;
 use std::alloc::Global;
 use std::marker::{Model, PhantomData};
 
@@ -73,7 +71,7 @@ impl<'p, 's, S: Source + Drop> ContextPdbData<'p, 's, S> {
         mut pdb: PDB<'s, S>,
     ) -> std::result::Result<ContextPdbData<'p, 's, S>, Error>
         ensures loads { Loads read_in (CanFail S.bytes S.failures pdb.entry) result
-            (database_read (shared (streams (S.bytes pdb.entry)))) }
+            (read_of_file (S.bytes pdb.entry)) }
         ensures own { IfOk result
             (λ d. IsOwn (streams (S.bytes pdb.entry)) (CanFail S.bytes S.failures pdb.entry) d) }
     {
@@ -91,11 +89,8 @@ impl<'p, 's, S: Source + Drop> ContextPdbData<'p, 's, S> {
     ) -> std::result::Result<ContextPdbData<'p, 's, S>, Error>
         ensures same { S.bytes pdb.new ≡ S.bytes pdb.old }
         ensures counts { S.failures pdb.old ≤ S.failures pdb.new }
-        ensures loads { Loads read_in (HasRisen (S.failures pdb.old) (S.failures pdb.new)) result
-            (database_read (shared (streams (S.bytes pdb.old)))) }
-        ensures own { IfOk result
-            (λ d. IsOwn (streams (S.bytes pdb.old))
-            (HasRisen (S.failures pdb.old) (S.failures pdb.new)) d) }
+        ensures loads { LoadsFrom S.bytes S.failures pdb.old pdb.new result }
+        ensures own { IfOk result (IsOwnFrom S.bytes S.failures pdb.old pdb.new) }
     {
         match read_database(pdb, alloc) {
             Ok(held) => Ok(ContextPdbData::from_held(held)),
@@ -115,8 +110,7 @@ impl<'p, 's> ContextPdbData<'p, 's, FileSource> {
         alloc: Global,
         pdb: PDB<'s, FileSource>,
     ) -> std::result::Result<ContextPdbData<'p, 's, FileSource>, Error>
-        ensures loads { Loads read_in (HasRisen 0 0) result
-            (database_read (shared (streams pdb.entry))) }
+        ensures loads { Loads read_in (HasRisen 0 0) result (read_of_file pdb.entry) }
         ensures own { IfOk result (λ d. IsOwn (streams pdb.entry) (HasRisen 0 0) d) }
     {
         match hold_database(alloc, pdb) {
@@ -323,8 +317,8 @@ impl<'p, 's, S: Source> ContextPdbData<'p, 's, S> {
         modules: &'a KeptModules<'s>,
         parts: ContextParts<'a, 's>,
     ) -> std::result::Result<Context<'a, 's, KeptModules<'s>>, Error>
-        ensures { Answers (λ c. c) result (context_over modules.now
-            (formatting_of (with_modules self.now modules.now) 23) (Ok parts.entry)) }
+        ensures { Answers (λ c. c) result
+            (context_of_modules self.now modules.now 23 parts.entry) }
     {
         let flags = TypeFormatterFlags::default();
         self.make_context_over_with_formatter_flags(alloc, modules, parts, flags)
@@ -342,8 +336,8 @@ impl<'p, 's, S: Source> ContextPdbData<'p, 's, S> {
         parts: ContextParts<'a, 's>,
         flags: TypeFormatterFlags,
     ) -> std::result::Result<Context<'a, 's, KeptModules<'s>>, Error>
-        ensures { Answers (λ c. c) result (context_over modules.now
-            (formatting_of (with_modules self.now modules.now) flags.bits) (Ok parts.entry)) }
+        ensures { Answers (λ c. c) result
+            (context_of_modules self.now modules.now flags.bits parts.entry) }
     {
         let formatter = self.make_type_formatter_over(alloc, modules, flags)?;
         Context::with_parts(alloc, modules, parts, MaybeOwned::Owned(formatter))

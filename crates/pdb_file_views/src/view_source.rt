@@ -9,17 +9,11 @@ use crate::file_views::{FileView, FileViews, first_of};
 use crate::slices::size_within;
 use crate::wanted::Wanted;
 use boxcar::tag::{Names, Tag};
-use pdb_container::{ReadView, Source, SourceSlice};
+use pdb_container::{ALWAYS_ALLOWED, ReadView, Source, SourceSlice, TIMES_LISTED};
 use std::alloc::{AllocError, Global};
 use std::io::{self, ErrorKind};
 use std::marker::Model;
 use std::sync::Arc;
-
-/// How many bytes may be listed of a file of any length: 1 MB.
-const ALWAYS: u64 = 0x10_0000;
-
-/// How many times a file's length may be listed beside that, as of a file that is in memory.
-const TIMES_LISTED: u64 = 1024;
 
 /// What was read of a file, and bytes that one asks about.
 #[derive(Drop)]
@@ -135,7 +129,7 @@ impl ViewSource {
         let listed_left = views
             .size
             .saturating_mul(TIMES_LISTED)
-            .saturating_add(ALWAYS);
+            .saturating_add(ALWAYS_ALLOWED);
         Ok(ViewSource {
             size: views.size,
             views: Arc::new(alloc, shares)?,

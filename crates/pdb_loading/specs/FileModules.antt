@@ -1,11 +1,15 @@
 -- Modules of a file that are read when they are asked for: what is stored of each.
-use Rattle.std.specs.Prelude.{◌≡◌, ℕ, List, [], ◌∷◌, map, None, Ok}
+use Rattle.std.specs.Prelude.{◌≡◌, ℕ, List, [], ◌∷◌, map, Option, None, Result, Ok}
+use Rattle.std.specs.List.{All}
+use Rattle.pdb_container.specs.Fault.{Fault}
 use Rattle.pdb_loading.specs.declared.file_reader.ModuleParts.{ModuleParts}
 use Rattle.pdb_loading.specs.declared.file_modules.ModuleSlot.{ModuleSlot}
+use Rattle.pdb_loading.specs.Held.{kept_infos}
 use Rattle.pdb_loading.specs.ModuleInfos.{KeptInfo, kept_info}
 use Rattle.pdb_symbols_modules.specs.DatabaseCalls.{module_info}
+use Rattle.pdb_symbols_modules.specs.ModuleStream.{ModuleStream}
 use Rattle.pdb_symbols_modules.specs.Modules.{Module}
-use Rattle.pdb_symbols_modules.specs.Streams.{streams}
+use Rattle.pdb_symbols_modules.specs.Streams.{Streams, streams}
 
 -- where a module's stream is, and the sizes of its parts
 abbrev pub parts_of : Module → ModuleParts
@@ -56,3 +60,12 @@ IsOfFile file slot = slot.kept.tag ≡ tag_of slot.parts file
 -- what is stored of the modules of these slots, once they are asked for
 abbrev pub kept_in : List ℕ → List ModuleSlot → List KeptInfo
 kept_in file slots = map (λ slot. kept_by file slot.parts) slots
+
+-- a module's own stream in a file, by what reading it needs
+abbrev pub module_by : ModuleParts → Streams → Result (Option ModuleStream) Fault
+module_by p s = module_info s (entry_of p)
+
+-- slots are of a file, each with what is stored of a module in its place
+abbrev pub AreSlotsOf : List ℕ → List Module → List ModuleSlot → Type 0
+AreSlotsOf file modules slots =
+    All (IsOfFile file) slots × (kept_in file slots ≡ kept_infos (streams file) modules)

@@ -1,5 +1,8 @@
 -- How much of a file is read.
-use Rattle.std.specs.Prelude.{◌≡◌, ℕ, ◌≤◌, List, ◌++◌, length, nat_eq, false}
+use Rattle.std.specs.Prelude.{◌≡◌, ℕ, ◌≤◌, List, ◌++◌, length, nat_eq, false, Option}
+use Rattle.std.specs.Global.{Vec}
+use Rattle.std.specs.Io.{appended_bytes}
+use Rattle.std.specs.Io.KnownBytes.{Consumes}
 use Rattle.std.specs.List.{starts_with}
 use Rattle.pdb_container.specs.Container.{magic, pages_end}
 
@@ -12,3 +15,7 @@ pub data IsRead (file bytes : List ℕ) : Type 0 where
       → starts_with nat_eq bytes magic ≡ false → IsRead file bytes
   pages : (tail : List ℕ) → file ≡ bytes ++ tail → 4096 ≤ length bytes
       → pages_end bytes ≤ length bytes → IsRead file bytes
+
+-- bytes that a reader lost, of those that are known of it, were appended to other bytes
+abbrev pub Appends : Option (List ℕ) → Option (List ℕ) → Vec ℕ → Vec ℕ → Type 0
+Appends known left old new = Consumes known left (appended_bytes old.items new.items)

@@ -48,7 +48,12 @@ parts_checked order h = outcome (parts_held_with order h)
 abbrev pub kept_infos : Streams → List Module → List KeptInfo
 kept_infos s modules = map (λ m. kept_info (module_info s m)) modules
 
+-- what is stored of the modules that stream 3 lists
+abbrev pub listed_infos : Dbi → Streams → List KeptInfo
+listed_infos dbi s = kept_infos s (modules_of dbi.modules).items
+
 -- the names in a file
+
 abbrev pub names_in : Streams → Option (List ℕ)
 names_in s = if_read (names (shared s))
 

@@ -1,4 +1,5 @@
 pub mod FileFaults
+pub mod FileLoads
 pub mod FileModules
 pub mod FileRead
 pub mod Held
@@ -11,3 +12,4 @@ pub mod ModuleInfos
 pub mod Orders
 pub mod Provided
 pub mod Sharing
+pub mod StreamReads

@@ -4,7 +4,7 @@ use Rattle.pdb_addresses.specs.Addresses.{Map, is_ordered}
 use Rattle.pdb_container.specs.Fault as container
 use Rattle.pdb_container.specs.Fault.{◌>>=◌, refuse}
 use Rattle.pdb_container.specs.Listing.{whole}
-use Rattle.pdb_items.specs.Items.{Table}
+use Rattle.pdb_container_types.specs.Items.{Table}
 use Rattle.pdb_symbols_modules.specs.AddressTables.{address_map_by}
 use Rattle.pdb_symbols_modules.specs.Dbi.{Dbi}
 use Rattle.pdb_symbols_modules.specs.Modules.{modules_of}

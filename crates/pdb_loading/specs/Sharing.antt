@@ -1,5 +1,5 @@
 -- Modules that name one stream: it is read once, and they share it.
-use Rattle.std.specs.Prelude.{◌≡◌, ℕ, ◌≤◌, ◌⊎◌, None, Some, Ok, Err}
+use Rattle.std.specs.Prelude.{◌≡◌, ℕ, ◌≤◌, ◌⊎◌, List, None, Some, Ok, Err}
 use Rattle.std.specs.BTreeMap.{BTreeMap, get}
 use Rattle.std.specs.Result.{IsErrAnd}
 use Rattle.std.specs.Ordering.{nat_cmp}
@@ -8,7 +8,7 @@ use Rattle.pdb_loading.specs.ModuleInfos.{KeptInfo, kept_info, IsSourceFault, Ke
 use Rattle.pdb_symbols_modules.specs.DatabaseCalls.{module_info}
 use Rattle.pdb_symbols_modules.specs.Modules.{Module}
 use Rattle.pdb_symbols_modules.specs.Shared.{module_stream}
-use Rattle.pdb_symbols_modules.specs.Streams.{Streams}
+use Rattle.pdb_symbols_modules.specs.Streams.{Streams, streams}
 
 -- what is stored of a module, by what is stored of another one that names the same stream: that
 -- one's bytes, in parts of its own sizes
@@ -45,3 +45,9 @@ abbrev pub SharesInfo : Streams → Module → ℕ → ℕ → BTreeMap ℕ Kept
 SharesInfo s m failures failures' read read' kept = (before : ℕ) → before ≤ failures
     → AreOfStreams s (HasRisen before failures) read
     → IsShared s m (HasRisen before failures') kept read'
+
+-- the same by the source of those streams, and its failures at two states
+abbrev pub SharesFrom : {S : Type 0} → (S → List ℕ) → (S → ℕ) → S → S → Module
+    → BTreeMap ℕ KeptInfo → BTreeMap ℕ KeptInfo → KeptInfo → Type 0
+SharesFrom bytes failures old new m read read' kept =
+    SharesInfo (streams (bytes old)) m (failures old) (failures new) read read' kept

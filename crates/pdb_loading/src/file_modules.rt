@@ -4,7 +4,7 @@ ghost use Rattle.std.specs.Prelude.{◌≡◌, length, IfOk, IsOkUnless, None, O
 ghost use Rattle.std.specs.List.{All};
 ghost use Rattle.pdb_container.specs.Fault.{Gives};
 ghost use Rattle.pdb_loading.specs.FileModules.{entry_of, kept_by, kept_by_tag, kept_in};
-ghost use Rattle.pdb_loading.specs.FileModules.{tag_of, IsOfFile};
+ghost use Rattle.pdb_loading.specs.FileModules.{AreSlotsOf, IsOfFile, tag_of};
 ghost use Rattle.pdb_loading.specs.Held.{kept_infos};
 ghost use Rattle.pdb_loading.specs.Sharing.{in_parts_of};
 ghost use Rattle.pdb_symbols_modules.specs.Streams.{streams};
@@ -121,8 +121,7 @@ fn empty_slots<'s>(
     file: &FileSource,
     entries: &[Module<'_>],
 ) -> Result<Vec<ModuleSlot<'s>>>
-    ensures slots { IfOk result (λ v. All (IsOfFile file.now) v.items
-        × (kept_in file.now v.items ≡ kept_infos (streams file.now) entries.now)) }
+    ensures slots { IfOk result (λ v. AreSlotsOf file.now entries.now v.items) }
     ensures memory { IsOkUnless result Error.OutOfMemory }
 {
     let mut slots = Vec::new(alloc);

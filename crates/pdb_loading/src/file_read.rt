@@ -3,10 +3,10 @@
 ghost use Rattle.std.specs.Prelude.{◌≡◌, ◌<◌, ◌≤◌, max, IfOk, IfSome, OnOk, length, vec_len, take};
 ghost use Rattle.std.specs.Prelude.{nat_eq, false};
 ghost use Rattle.std.specs.List.{starts_with};
-ghost use Rattle.std.specs.Io.{ReadsAtMost, StartsWith, appended_bytes};
+ghost use Rattle.std.specs.Io.{ReadsAtMost, StartsWith};
 ghost use Rattle.std.specs.Io.KnownBytes.{Consumes, IsAtEnd};
 ghost use Rattle.pdb_container.specs.Container.{magic, pages_end as end_in};
-ghost use Rattle.pdb_loading.specs.FileRead.{IsRead};
+ghost use Rattle.pdb_loading.specs.FileRead.{Appends, IsRead};
 
 use pdb_container::{may_be_container, pages_end};
 use std::alloc::Global;
@@ -51,8 +51,8 @@ pub fn read_file<R: Read>(alloc: Global, file: &mut R) -> io::Result<Vec<u8>>
 fn read_container<R: Read>(file: &mut R, bytes: &mut Vec<u8>) -> io::Result<()>
     requires { vec_len bytes.old ≤ 4096 }
     ensures begun { StartsWith bytes.new.items bytes.old.items }
-    ensures taken { OnOk result (Consumes (R.remaining file.old) (R.remaining file.new)
-        (appended_bytes bytes.old.items bytes.new.items)) }
+    ensures taken { OnOk result (Appends (R.remaining file.old) (R.remaining file.new) bytes.old
+        bytes.new) }
     ensures end { OnOk result (vec_len bytes.new < max 4096 (end_in bytes.new.items)
         → IsAtEnd (R.remaining file.new)) }
     ensures bound { OnOk result (vec_len bytes.new ≤ max 4096 (end_in bytes.new.items)) }
@@ -68,8 +68,8 @@ fn read_container<R: Read>(file: &mut R, bytes: &mut Vec<u8>) -> io::Result<()>
 /// Reads on after other bytes, until there are so many or the reader is at its end.
 fn read_on<R: Read>(file: &mut R, bytes: &mut Vec<u8>, end: u64) -> io::Result<()>
     ensures begun { StartsWith bytes.new.items bytes.old.items }
-    ensures taken { OnOk result (Consumes (R.remaining file.old) (R.remaining file.new)
-        (appended_bytes bytes.old.items bytes.new.items)) }
+    ensures taken { OnOk result (Appends (R.remaining file.old) (R.remaining file.new) bytes.old
+        bytes.new) }
     ensures end { OnOk result (vec_len bytes.new < end → IsAtEnd (R.remaining file.new)) }
     ensures bound { vec_len bytes.new ≤ max end (vec_len bytes.old) }
 {

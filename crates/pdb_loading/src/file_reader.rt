@@ -2,9 +2,8 @@
 
 ghost use Rattle.std.specs.Prelude.{◌≡◌, None, Ok};
 ghost use Rattle.pdb_container.specs.Fault.{Gives};
-ghost use Rattle.pdb_container.specs.SourceAnswers.{AnswersFrom};
-ghost use Rattle.pdb_loading.specs.FileModules.{entry_of, kept_by, parts_of as parts_in};
-ghost use Rattle.pdb_symbols_modules.specs.DatabaseCalls.{module_info};
+ghost use Rattle.pdb_loading.specs.FileModules.{kept_by, module_by, parts_of as parts_in};
+ghost use Rattle.pdb_loading.specs.StreamReads.{AnswersBy};
 ghost use Rattle.pdb_symbols_modules.specs.Streams.{streams};
 
 use crate::module_infos::{KeptInfo, keep};
@@ -124,8 +123,8 @@ fn read_parts<'s, S: Source + Drop, T: Source>(
     parts: ModuleParts,
 ) -> Result<Option<ModuleInfo<'s>>>
     requires { T.bytes source.old ≡ S.bytes pdb.now }
-    ensures { AnswersFrom T.bytes T.failures source.old source.new (λ m. m) result
-        (module_info (streams (T.bytes source.old)) (entry_of parts)) }
+    ensures { AnswersBy T.bytes T.failures source.old source.new (λ m. m) result
+        (module_by parts) }
 {
     match pdb.raw_stream_from(source, alloc, StreamIndex(parts.stream))? {
         None => Ok(None),

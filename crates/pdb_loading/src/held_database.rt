@@ -1,18 +1,15 @@
 //! What is held of a database: the streams that are read in the order of loading, the names of
 //! files and modules, and the modules' own streams.
 
-ghost use Rattle.std.specs.Prelude.{◌≡◌, ℕ, IfOk, List, Ok, Option};
-ghost use Rattle.pdb_addresses.specs.Addresses.{Map};
-ghost use Rattle.pdb_frames.specs.Parts.{outcome, parts_in_any_order};
+ghost use Rattle.std.specs.Prelude.{◌≡◌, IfOk, Ok};
+ghost use Rattle.pdb_frames.specs.PartsSeen.{Checks, ChecksInAnyOrder};
 ghost use Rattle.pdb_container.specs.Fault.{Gives, HasRisen};
-ghost use Rattle.pdb_container.specs.SourceAnswers.{AnswersFrom};
-ghost use Rattle.pdb_loading.specs.Held.{IsOwn, kept_infos, names_in, parts_checked, read_in};
+ghost use Rattle.pdb_loading.specs.Held.{IsOwn, listed_infos, names_in, parts_checked, read_in};
+ghost use Rattle.pdb_loading.specs.StreamReads.{Holds, IsOwnFrom};
 ghost use Rattle.pdb_loading.specs.Loading.{database_read, listed, read_after};
 ghost use Rattle.pdb_loading.specs.ModuleInfos.{KeepsNames};
-ghost use Rattle.pdb_loading.specs.Orders.{checked_in_any_order};
-ghost use Rattle.pdb_resolving.specs.Fault.{Answers};
+ghost use Rattle.pdb_loading.specs.Orders.{checked_in_any_order as checked};
 ghost use Rattle.pdb_symbols_modules.specs.DatabaseCalls.{debug_information as read_dbi};
-ghost use Rattle.pdb_symbols_modules.specs.Modules.{modules_of};
 ghost use Rattle.pdb_symbols_modules.specs.Shared.{shared};
 ghost use Rattle.pdb_symbols_modules.specs.Streams.{streams};
 
@@ -91,11 +88,9 @@ pub fn read_after_tables<'s, S: Source + Drop>(
     tables: Tables<'s>,
 ) -> Result<HeldDatabase<'s>>
     requires { read_dbi (shared (streams (S.bytes pdb.old))) ≡ Ok debug_information }
-    ensures loads { AnswersFrom S.bytes S.failures pdb.old pdb.new read_in result
+    ensures loads { Holds S.bytes S.failures pdb.old pdb.new result
         (read_after debug_information.entry tables.entry) }
-    ensures own { IfOk result
-        (λ d. IsOwn (streams (S.bytes pdb.old)) (HasRisen (S.failures pdb.old) (S.failures pdb.new))
-        d) }
+    ensures own { IfOk result (IsOwnFrom S.bytes S.failures pdb.old pdb.new) }
 {
     let module_infos = read_module_infos(pdb, alloc, &debug_information)?;
     let names = read_names(pdb, alloc)?;
@@ -117,11 +112,9 @@ pub fn read_database<'s, S: Source + Drop>(
     pdb: &mut PDB<'s, S>,
     alloc: Global,
 ) -> Result<HeldDatabase<'s>>
-    ensures loads { AnswersFrom S.bytes S.failures pdb.old pdb.new read_in result
+    ensures loads { Holds S.bytes S.failures pdb.old pdb.new result
         (database_read (shared (streams (S.bytes pdb.old)))) }
-    ensures own { IfOk result
-        (λ d. IsOwn (streams (S.bytes pdb.old)) (HasRisen (S.failures pdb.old) (S.failures pdb.new))
-        d) }
+    ensures own { IfOk result (IsOwnFrom S.bytes S.failures pdb.old pdb.new) }
 {
     let debug_information = pdb.debug_information(alloc)?;
     let tables = read_tables(pdb, alloc, &debug_information)?;
@@ -171,7 +164,7 @@ fn names_and_modules<'s>(
     ensures names { IfOk result
         (λ kept. KeepsNames (HasRisen 0 0) kept.0 (names_in (streams pdb.entry))) }
     ensures modules { IfOk result (λ kept. kept.1
-        ≡ kept_infos (streams pdb.entry) (modules_of debug_information.now.modules).items) }
+        ≡ listed_infos debug_information.now (streams pdb.entry)) }
 {
     let entries = collect_modules(alloc, debug_information.modules())?;
     let names = read_names(&mut pdb, alloc)?;
@@ -205,8 +198,8 @@ fn read_in_any_order(
     symbol_records: &SymbolTable<'_>,
     debug_information: &DebugInformation<'_>,
 ) -> std::result::Result<(), Error>
-    ensures { Answers (λ _. tt) result (checked_in_any_order sections.now symbol_records.now
-        debug_information.now.contributions) }
+    ensures { Checks result
+        (checked sections.now symbol_records.now debug_information.now.contributions) }
 {
     check_symbols(symbol_records.iter())?;
     compute_section_contributions_in_any_order(alloc, debug_information, sections)?;
@@ -222,9 +215,8 @@ fn check_in_any_order(
     symbol_records: &SymbolTable<'_>,
     debug_information: &DebugInformation<'_>,
 ) -> std::result::Result<(), Error>
-    ensures { (map : Map) (names : Option (List ℕ)) → Answers (λ _. tt) result (outcome
-        (parts_in_any_order sections.now map symbol_records.now
-        debug_information.now.contributions names)) }
+    ensures { ChecksInAnyOrder sections.now symbol_records.now debug_information.now.contributions
+        result }
 {
     read_in_any_order(alloc, sections, symbol_records, debug_information)
 }
@@ -240,7 +232,7 @@ impl<'s> HeldDatabase<'s> {
         alloc: Global,
         order: ContributionOrder,
     ) -> std::result::Result<(), Error>
-        ensures { Answers (λ _. tt) result (parts_checked order self.now) }
+        ensures { Checks result (parts_checked order self.now) }
     {
         let sections = self.tables.address_map.image_section_headers();
         let symbol_records = &self.tables.symbol_records;

@@ -1,16 +1,14 @@
 //! The modules' own streams, each read once and stored with its fault.
 
-ghost use Rattle.std.specs.Prelude.{ℕ, ◌≡◌, ◌≤◌, length, IfOk, IsOkUnless, Ok, None, option_map};
-ghost use Rattle.pdb_loading.specs.Held.{kept_infos};
-ghost use Rattle.pdb_loading.specs.ModuleInfos.{answered_if_listed, kept_info, kept_as};
-ghost use Rattle.pdb_loading.specs.ModuleInfos.{KeepsFrom, KeepsInfo, KeepsInfos};
+ghost use Rattle.std.specs.Prelude.{ℕ, ◌≡◌, ◌≤◌, length, IfOk, IsOkUnless, Ok, None, option_copied};
+ghost use Rattle.pdb_loading.specs.ModuleInfos.{answered_if_listed, kept_as};
+ghost use Rattle.pdb_loading.specs.ModuleInfos.{KeepsInfo, KeepsInfos};
 ghost use Rattle.pdb_loading.specs.Loading.{listed};
-ghost use Rattle.pdb_loading.specs.Sharing.{SharesInfo, in_parts_of};
-ghost use Rattle.pdb_container.specs.Fault.{Gives, HasRisen, kept_of};
+ghost use Rattle.pdb_loading.specs.Sharing.{SharesFrom, in_parts_of};
+ghost use Rattle.pdb_loading.specs.StreamReads.{KeepsBy, KeepsListed, info_by, infos_by};
+ghost use Rattle.pdb_container.specs.Fault.{Gives, kept_of};
 ghost use Rattle.pdb_container.specs.Listing.{whole};
-ghost use Rattle.pdb_symbols_modules.specs.Modules.{modules_of};
 ghost use Rattle.pdb_symbols_modules.specs.DatabaseCalls.{debug_information as read_dbi};
-ghost use Rattle.pdb_symbols_modules.specs.DatabaseCalls.{module_info};
 ghost use Rattle.pdb_symbols_modules.specs.Shared.{shared};
 ghost use Rattle.pdb_symbols_modules.specs.Streams.{streams};
 
@@ -98,8 +96,8 @@ impl<'s> KeptModules<'s> {
 
 /// What is answered of a module by what is stored of it; a fault as `Kept`.
 fn answer_of<'k, 's>(kept: Option<&'k KeptInfo<'s>>) -> Result<Option<&'k ModuleInfo<'s>>>
-    ensures { Gives (option_map (λ info. info.now)) ⊥ result
-        (answered_if_listed (option_map (λ k. k.now) kept.entry)) }
+    ensures { Gives (λ info. option_copied info) ⊥ result
+        (answered_if_listed (option_copied kept.entry)) }
 {
     match kept {
         None => Ok(None),
@@ -169,8 +167,8 @@ fn read_info<'s, S: Source + Drop>(
     entry: &Module<'_>,
 ) -> Result<KeptInfo<'s>>
     requires { (streams (S.bytes pdb.old)).open_fault ≡ None }
-    ensures { KeepsFrom S.bytes S.failures pdb.old pdb.new KeepsInfo (λ k. k) result
-        (kept_info (module_info (streams (S.bytes pdb.old)) entry.now)) }
+    ensures { KeepsBy S.bytes S.failures pdb.old pdb.new KeepsInfo (λ k. k) result
+        (info_by entry.now) }
 {
     match pdb.module_info(alloc, entry) {
         Ok(info) => Ok(Ok(info)),
@@ -213,8 +211,8 @@ fn keep_info<'s, S: Source + Drop>(
     ensures same { S.bytes pdb.new ≡ S.bytes pdb.old }
     ensures counts { S.failures pdb.old ≤ S.failures pdb.new }
     ensures memory { IsOkUnless result Error.OutOfMemory }
-    ensures shared { IfOk result (SharesInfo (streams (S.bytes pdb.old)) entry.now
-        (S.failures pdb.old) (S.failures pdb.new) read.old read.new) }
+    ensures shared { IfOk result (SharesFrom S.bytes S.failures pdb.old pdb.new entry.now read.old
+        read.new) }
 {
     let number = entry.stream().0;
     if let Some(kept) = read.get(&number) {
@@ -233,8 +231,8 @@ fn read_infos<'s, S: Source + Drop>(
     entries: &[Module<'_>],
 ) -> Result<Vec<KeptInfo<'s>>>
     requires { (streams (S.bytes pdb.old)).open_fault ≡ None }
-    ensures { KeepsFrom S.bytes S.failures pdb.old pdb.new KeepsInfos (λ v. v.items) result
-        (kept_infos (streams (S.bytes pdb.old)) entries.now) }
+    ensures { KeepsBy S.bytes S.failures pdb.old pdb.new KeepsInfos (λ v. v.items) result
+        (infos_by entries.now) }
 {
     let mut infos = Vec::new(alloc);
     let mut read = BTreeMap::new(alloc);
@@ -259,9 +257,8 @@ pub(crate) fn read_module_infos<'s, S: Source + Drop>(
     ensures same { S.bytes pdb.new ≡ S.bytes pdb.old }
     ensures counts { S.failures pdb.old ≤ S.failures pdb.new }
     ensures whole_list { Gives (λ _. tt) ⊥ result (listed debug_information.now) }
-    ensures kept { IfOk result
-        (λ v. KeepsInfos (HasRisen (S.failures pdb.old) (S.failures pdb.new)) v.items
-        (kept_infos (streams (S.bytes pdb.old)) (modules_of debug_information.now.modules).items)) }
+    ensures kept { IfOk result (λ v. KeepsListed S.bytes S.failures pdb.old pdb.new
+        debug_information.now v.items) }
 {
     let modules = collect_modules(alloc, debug_information.modules())?;
     read_infos(pdb, alloc, modules.as_slice())

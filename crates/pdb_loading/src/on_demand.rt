@@ -1,17 +1,14 @@
 //! Loading a file that is read on demand: what is missing is read, and the file is loaded again by
 //! what is there then.
 
-ghost use Rattle.std.specs.Prelude.{◌≡◌, true, List, IfErr, IfOk, None, OnOk};
+ghost use Rattle.std.specs.Prelude.{◌≡◌, IfErr, IfOk, None, OnOk};
 ghost use Rattle.pdb_container.specs.PrintedFault.{printed_text};
-ghost use Rattle.pdb_file_views.specs.Views.{agrees, source_bytes, Grows};
+ghost use Rattle.pdb_file_views.specs.Views.{Grows};
 ghost use Rattle.pdb_loading.specs.FileFaults.{OnLoadFault};
+ghost use Rattle.pdb_loading.specs.FileLoads.{Agree, AreInfos, RefusesFile, RefusesToLoad};
+ghost use Rattle.pdb_loading.specs.FileLoads.{file_fault};
 ghost use Rattle.pdb_loading.specs.declared.load_fault.LoadFault.TheVariants as faults;
-ghost use Rattle.pdb_loading.specs.Held.{kept_infos};
-ghost use Rattle.pdb_loading.specs.LoadFaults.{Refuses};
 ghost use Rattle.pdb_loading.specs.LoadFaultText.{file_fault_text};
-ghost use Rattle.pdb_loading.specs.Loading.{load_fault_with};
-ghost use Rattle.pdb_symbols_modules.specs.Modules.{modules_of};
-ghost use Rattle.pdb_symbols_modules.specs.Streams.{streams};
 
 use crate::file_modules::FileModules;
 use crate::held_database::HeldDatabase;
@@ -102,14 +99,13 @@ fn load_views(
     wanted: &Wanted,
     order: ContributionOrder,
 ) -> Result<LoadedFile, LoadFault>
-    ensures ok { agrees views.now contents.now.numbers ≡ true
+    ensures ok { Agree views.now contents.now.numbers
         → IfOk result (λ f. f.bytes ≡ contents.now.numbers) }
     ensures order { IfOk result (λ f. f.order ≡ order) }
-    ensures loaded { agrees views.now contents.now.numbers ≡ true
-        → OnOk result (load_fault_with order (streams contents.now.numbers) ≡ None) }
-    ensures refused { agrees views.now contents.now.numbers ≡ true
-        → IfErr result
-        (λ e. Refuses e (load_fault_with order (streams contents.now.numbers))) }
+    ensures loaded { Agree views.now contents.now.numbers
+        → OnOk result (file_fault order contents.now.numbers ≡ None) }
+    ensures refused { Agree views.now contents.now.numbers
+        → IfErr result (RefusesFile order contents.now.numbers) }
 {
     let Ok(file) = FileSource::of_views(alloc, views, contents, wanted) else {
         return Err(LoadFault::OutOfMemory);
@@ -140,14 +136,13 @@ pub fn load_on_demand<F: FileExt>(
     order: ContributionOrder,
 ) -> Result<LoadedViews, FileFault>
     ensures grows { Grows views.old views.new }
-    ensures ok { agrees views.new contents.now.numbers ≡ true
+    ensures ok { Agree views.new contents.now.numbers
         → IfOk result (λ f. f.loaded.bytes ≡ contents.now.numbers) }
     ensures order { IfOk result (λ f. f.loaded.order ≡ order) }
-    ensures loaded { agrees views.new contents.now.numbers ≡ true
-        → OnOk result (load_fault_with order (streams contents.now.numbers) ≡ None) }
-    ensures refused { agrees views.new contents.now.numbers ≡ true → IfErr result (λ e.
-        OnLoadFault e
-        (λ cause. Refuses cause (load_fault_with order (streams contents.now.numbers)))) }
+    ensures loaded { Agree views.new contents.now.numbers
+        → OnOk result (file_fault order contents.now.numbers ≡ None) }
+    ensures refused { Agree views.new contents.now.numbers
+        → IfErr result (RefusesToLoad order contents.now.numbers) }
 {
     for _ in 0..ROUNDS {
         let wanted = Wanted::new(alloc)?;
@@ -177,9 +172,8 @@ pub fn modules_of_views(
     wanted: &Wanted,
     debug_information: &DebugInformation<'_>,
 ) -> ReadResult<KeptModules<'static>>
-    ensures { agrees views.now contents.now.numbers ≡ true → IfOk result (λ m. m
-        ≡ kept_infos (streams contents.now.numbers)
-        (modules_of debug_information.now.modules).items) }
+    ensures { Agree views.now contents.now.numbers
+        → IfOk result (AreInfos debug_information.now contents.now.numbers) }
 {
     let file = FileSource::of_views(alloc, views, contents, wanted)?;
     let pdb = PDB::open(alloc, file)?;

@@ -1,19 +1,16 @@
 //! What is read of a database besides its modules, in the order of loading.
 
 ghost use Rattle.std.specs.Prelude.{◌≡◌, Ok};
-ghost use Rattle.pdb_container.specs.SourceAnswers.{AnswersFrom};
-ghost use Rattle.pdb_loading.specs.ModuleInfos.{KeepsFrom, KeepsNames};
 ghost use Rattle.pdb_loading.specs.Held.{names_in};
-ghost use Rattle.pdb_loading.specs.Loading.{tables};
-ghost use Rattle.pdb_symbols_modules.specs.AddressTables.{address_map_by};
+ghost use Rattle.pdb_loading.specs.ModuleInfos.{KeepsNames};
+ghost use Rattle.pdb_loading.specs.StreamReads.{AnswersBy, KeepsBy, map_by, symbols_by, tables_by};
 ghost use Rattle.pdb_symbols_modules.specs.DatabaseCalls.{debug_information as read_dbi};
-ghost use Rattle.pdb_symbols_modules.specs.DatabaseCalls.{global_symbols_by};
-ghost use Rattle.pdb_symbols_modules.specs.Shared.{shared, optional_in};
+ghost use Rattle.pdb_symbols_modules.specs.Shared.{shared};
 ghost use Rattle.pdb_symbols_modules.specs.Streams.{streams};
 
 use pdb_addresses::AddressMap;
 use pdb_container::{Error, Result, Source, StringTable};
-use pdb_items::{IdInformation, TypeInformation};
+use pdb_container_types::{IdInformation, TypeInformation};
 use pdb_symbol_records::SymbolTable;
 use pdb_symbols_modules::{DebugInformation, PDB};
 use std::alloc::Global;
@@ -67,9 +64,8 @@ fn read_symbol_records<'s, S: Source + Drop>(
     debug_information: &DebugInformation<'_>,
 ) -> Result<SymbolTable<'s>>
     requires { read_dbi (shared (streams (S.bytes pdb.old))) ≡ Ok debug_information.now }
-    ensures { AnswersFrom S.bytes S.failures pdb.old pdb.new (λ t. t) result
-        (global_symbols_by debug_information.now.symbol_records_stream
-        (shared (streams (S.bytes pdb.old))).symbols) }
+    ensures { AnswersBy S.bytes S.failures pdb.old pdb.new (λ t. t) result
+        (symbols_by debug_information.now) }
 {
     pdb.global_symbols_by(alloc, debug_information)
 }
@@ -82,9 +78,8 @@ fn read_address_map<'s, S: Source + Drop>(
     debug_information: &DebugInformation<'_>,
 ) -> Result<AddressMap<'s>>
     requires { read_dbi (shared (streams (S.bytes pdb.old))) ≡ Ok debug_information.now }
-    ensures { AnswersFrom S.bytes S.failures pdb.old pdb.new (λ m. m) result
-        (address_map_by
-        (optional_in (shared (streams (S.bytes pdb.old))) debug_information.now)) }
+    ensures { AnswersBy S.bytes S.failures pdb.old pdb.new (λ m. m) result
+        (map_by debug_information.now) }
 {
     pdb.address_map_by(alloc, debug_information)
 }
@@ -103,8 +98,8 @@ pub fn read_tables<'s, S: Source + Drop>(
     debug_information: &DebugInformation<'_>,
 ) -> Result<Tables<'s>>
     requires { read_dbi (shared (streams (S.bytes pdb.old))) ≡ Ok debug_information.now }
-    ensures { AnswersFrom S.bytes S.failures pdb.old pdb.new (λ t. t) result
-        (tables (shared (streams (S.bytes pdb.old))) debug_information.now) }
+    ensures { AnswersBy S.bytes S.failures pdb.old pdb.new (λ t. t) result
+        (tables_by debug_information.now) }
 {
     let symbol_records = read_symbol_records(pdb, alloc, debug_information)?;
     let types = pdb.type_information(alloc)?;
@@ -127,8 +122,7 @@ pub(crate) fn read_names<'s, S: Source + Drop>(
     pdb: &mut PDB<'s, S>,
     alloc: Global,
 ) -> Result<Option<StringTable<'s>>>
-    ensures { KeepsFrom S.bytes S.failures pdb.old pdb.new KeepsNames (λ n. n) result
-        (names_in (streams (S.bytes pdb.old))) }
+    ensures { KeepsBy S.bytes S.failures pdb.old pdb.new KeepsNames (λ n. n) result names_in }
 {
     match pdb.string_table(alloc) {
         Ok(names) => Ok(Some(names)),
