@@ -1,3 +1,9 @@
 pub mod CodeView
+pub mod Codes
+pub mod Entries
 pub mod Image
+pub mod Reading
+pub mod Records
+pub mod Rules
 pub mod Tables
+pub mod Texts

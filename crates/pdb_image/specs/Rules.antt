@@ -1,0 +1,159 @@
+-- The rules by which a frame is left: how the caller's stack pointer (the canonical frame address),
+-- the return address and saved registers are found.
+use Rattle.std.specs.Prelude.{ℕ, ◌+◌, ◌<◌, ◌^◌, max, ◌-ℤ◌, ℤ, pos, negsuc, Bool, true, false, List}
+use Rattle.std.specs.Prelude.{[], ◌∷◌, map, nat_le, ◌==◌, if◌then◌else◌, Option, None, Some}
+use Rattle.std.specs.Prelude.{slice_index_or}
+use Rattle.std.specs.Prelude.{unwrap_or}
+use Rattle.std.specs.Option.{option_map}
+use Rattle.std.specs.List.{filter, list_any, range_with_len}
+use Rattle.pdb_image.specs.Codes.{is_machine_frame}
+use Rattle.pdb_image.specs.declared.code.UnwindCode.{UnwindCode}
+use Rattle.pdb_image.specs.declared.code.UnwindOperation.{UnwindOperation}
+use Rattle.pdb_image.specs.declared.code.UnwindOperation.TheVariants.{Push, Allocate, SetFrame}
+use Rattle.pdb_image.specs.declared.code.UnwindOperation.TheVariants.{Save, MachineFrame}
+use Rattle.pdb_image.specs.declared.rules.Register.{Register}
+use Rattle.pdb_image.specs.declared.rules.Register.TheVariants.{Cfa, ReturnAddress, General}
+use Rattle.pdb_image.specs.declared.rules.Expression.{Expression}
+use Rattle.pdb_image.specs.declared.rules.Rules.{Rules}
+use Rattle.pdb_image.specs.declared.frame.Frame.{Frame}
+use Rattle.pdb_image.specs.declared.frame.Saved.{Saved}
+use Rattle.pdb_image.specs.declared.frame.Saved.TheVariants.{Below, Above}
+use Rattle.pdb_image.specs.declared.frame.Steps.{Steps}
+
+-- ---- what the steps of a prolog have done; the last step stands first
+
+-- the codes whose steps are done at an offset from the function's begin
+abbrev pub done : ℕ → List UnwindCode → List UnwindCode
+done offset codes = filter (λ code. nat_le code.offset offset) codes
+
+-- by how many bytes a step lowers the stack pointer below the slot of the return address
+abbrev pub growth_of : UnwindOperation → ℕ
+growth_of (Push register) = 8
+growth_of (Allocate size) = size
+growth_of (SetFrame register offset) = 0
+growth_of (Save register offset) = 0
+growth_of (MachineFrame has_error_code) = if has_error_code then 8 else 0
+
+-- how far the slot of the return address lies above the stack pointer
+abbrev pub depth : List UnwindCode → ℕ
+depth [] = 0
+depth (code ∷ before) = depth before + growth_of code.operation
+
+-- a step sets the frame register so many bytes above the stack pointer, which lies so far below the
+-- slot; or what there was before
+abbrev pub frame_after : UnwindOperation → ℕ → Option Frame → Option Frame
+frame_after (SetFrame register offset) low before =
+    Some (record { register = register; offset = offset; low = low })
+frame_after (Push register) low before = before
+frame_after (Allocate size) low before = before
+frame_after (Save register offset) low before = before
+frame_after (MachineFrame has_error_code) low before = before
+
+-- the frame that the last step set, if one did
+abbrev pub frame_set : List UnwindCode → Option Frame
+frame_set [] = None
+frame_set (code ∷ before) = frame_after code.operation (depth before) (frame_set before)
+
+-- The frame: its register, how far that lies above the frame's lowest address, and how far this one
+-- lies below the slot of the return address. Without a frame register it is that of the stack
+-- pointer, register 4.
+abbrev pub frame : List UnwindCode → Frame
+frame steps = unwrap_or (frame_set steps) (record { register = 4; offset = 0; low = depth steps })
+
+-- a step saves a register, at this depth below the slot if it pushes it; or what there was before
+abbrev pub saved_after : ℕ → UnwindOperation → ℕ → Option Saved → Option Saved
+saved_after register (Push other) depth before =
+    if other == register then Some (Below depth) else before
+saved_after register (Save other offset) depth before =
+    if other == register then Some (Above offset) else before
+saved_after register (Allocate size) depth before = before
+saved_after register (SetFrame other offset) depth before = before
+saved_after register (MachineFrame has_error_code) depth before = before
+
+-- where the last step that saved a register did so, if one did
+abbrev pub saved : ℕ → List UnwindCode → Option Saved
+saved register [] = None
+saved register (code ∷ before) =
+    saved_after register code.operation (depth (code ∷ before)) (saved register before)
+
+-- the processor had pushed a machine frame
+abbrev pub has_machine_frame : List UnwindCode → Bool
+has_machine_frame steps = list_any is_machine_frame steps
+
+-- what steps have done: the depth, the frame that was set, and whether there is a machine frame
+abbrev pub steps_of : List UnwindCode → Steps
+steps_of steps = record {
+  depth = depth steps;
+  frame = frame_set steps;
+  is_machine = has_machine_frame steps;
+}
+
+-- a place below the slot lies less than 2^48 bytes below it
+abbrev pub IsShort : Saved → Type 0
+IsShort (Below n) = n < 2 ^ 48
+IsShort (Above n) = Unit {0}
+
+-- the last offset at which a step ends, or 0
+abbrev pub last_offset : List UnwindCode → ℕ
+last_offset [] = 0
+last_offset (code ∷ codes) = max code.offset (last_offset codes)
+
+-- ---- expressions
+
+-- so many bytes above the first, less so many: a signed number
+abbrev pub difference : ℕ → ℕ → ℤ
+difference up down = pos up -ℤ pos down
+
+-- the sum of a register and a number
+abbrev pub sum_of : Register → ℤ → Expression
+sum_of base offset = record { base = base; offset = offset; is_read = false }
+
+-- the eight bytes at the sum of a register and a number
+abbrev pub read_at : Register → ℤ → Expression
+read_at base offset = record { base = base; offset = offset; is_read = true }
+
+-- The caller's stack pointer: it lies eight bytes above the slot of the return address. A machine
+-- frame has it 24 bytes above the slot.
+abbrev pub cfa_rule : Bool → Frame → Expression
+cfa_rule is_machine f =
+    if is_machine then read_at (General f.register) (difference (f.low + 24) f.offset)
+    else sum_of (General f.register) (difference (f.low + 8) f.offset)
+
+-- the return address, in its slot
+abbrev pub return_rule : Bool → Frame → Expression
+return_rule is_machine f =
+    if is_machine then read_at (General f.register) (difference f.low f.offset)
+    else read_at Cfa (negsuc 7)
+
+-- A saved register. In a machine frame the frame's register finds it, since the caller's stack
+-- pointer lies anywhere.
+abbrev pub saved_rule : Bool → Frame → Saved → Expression
+saved_rule is_machine f (Below depth) =
+    if is_machine then read_at (General f.register) (difference f.low (f.offset + depth))
+    else read_at Cfa (difference 0 (depth + 8))
+saved_rule is_machine f (Above offset) =
+    if is_machine then read_at (General f.register) (difference offset f.offset)
+    else read_at Cfa (difference offset (f.low + 8))
+
+-- the rule of a general register, if it was saved
+abbrev pub register_rule : List UnwindCode → ℕ → Option Expression
+register_rule steps register =
+    option_map (saved_rule (has_machine_frame steps) (frame steps)) (saved register steps)
+
+-- the rules where these steps are done
+unfoldable pub rules_after : List UnwindCode → Rules
+rules_after steps = record {
+  cfa = cfa_rule (has_machine_frame steps) (frame steps);
+  return_address = return_rule (has_machine_frame steps) (frame steps);
+  saved = map (register_rule steps) (range_with_len 0 16);
+}
+
+-- the rules at an offset from a function's begin
+abbrev pub rules_at : List UnwindCode → ℕ → Rules
+rules_at codes offset = rules_after (done offset codes)
+
+-- the rule of a register, if there is one
+abbrev pub rule : Rules → Register → Option Expression
+rule rules Cfa = Some rules.cfa
+rule rules ReturnAddress = Some rules.return_address
+rule rules (General number) = slice_index_or rules.saved number None

@@ -1,0 +1,211 @@
+//! The rules by which a frame is left.
+
+ghost use Rattle.std.specs.Prelude.{◌≡◌, ◌<◌, ◌≤◌, ◌^◌, IfSome, false, length, map, true};
+ghost use Rattle.std.specs.List.{range_with_len};
+ghost use Rattle.pdb_image.specs.Rules.{IsShort, cfa_rule as cfa_rule_of, difference as signed};
+ghost use Rattle.pdb_image.specs.Rules.{done, return_rule as return_rule_of, rule as rule_in};
+ghost use Rattle.pdb_image.specs.Rules.{register_rule as register_rule_of, rules_at};
+ghost use Rattle.pdb_image.specs.Rules.{saved_rule as saved_rule_of, steps_of};
+
+use crate::code::UnwindCode;
+use crate::frame::{Frame, Saved, Steps, saved_at, steps_at};
+
+/// A register that a rule finds, or begins with.
+#[derive(Clone, Copy, Debug, PartialEq, Eq)]
+pub enum Register {
+    /// The canonical frame address: the caller's stack pointer.
+    Cfa,
+    /// The return address.
+    ReturnAddress,
+    /// The general register of this number: 0 to 15 are `rax`, `rcx`, `rdx`, `rbx`, `rsp`, `rbp`,
+    /// `rsi`, `rdi` and `r8` to `r15`.
+    General(u8),
+}
+
+/// How the caller's value of a register is found: the sum of a register, as it is in the frame that
+/// is left, and a number of bytes, or the eight bytes that lie there.
+#[derive(Clone, Copy, Debug, PartialEq, Eq)]
+pub struct Expression {
+    /// The register.
+    pub base: Register,
+    /// What is added to it, in bytes.
+    pub offset: i64,
+    /// Whether the value is what lies at the sum, and not the sum itself.
+    pub is_read: bool,
+}
+
+/// The rules by which a frame is left.
+#[derive(Clone, Copy, Debug, PartialEq, Eq)]
+pub struct Rules {
+    /// How the caller's stack pointer is found.
+    pub cfa: Expression,
+    /// How the return address is found.
+    pub return_address: Expression,
+    /// How the general registers that were saved are found, by their numbers.
+    pub saved: [Option<Expression>; 16],
+}
+
+/// The registers that records name, in their order.
+pub(crate) const REGISTERS: [Register; 17] = [
+    Register::Cfa,
+    Register::ReturnAddress,
+    Register::General(0),
+    Register::General(1),
+    Register::General(2),
+    Register::General(3),
+    Register::General(5),
+    Register::General(6),
+    Register::General(7),
+    Register::General(8),
+    Register::General(9),
+    Register::General(10),
+    Register::General(11),
+    Register::General(12),
+    Register::General(13),
+    Register::General(14),
+    Register::General(15),
+];
+
+impl Rules {
+    /// The rules where the steps are done that are done at an offset from the function's begin.
+    pub(crate) fn at(codes: &[UnwindCode], offset: u32) -> Rules
+        requires { length codes.now < 2 ^ 16 }
+        ensures { result ≡ rules_at codes.now offset }
+    {
+        let steps = steps_at(codes, offset);
+        Rules {
+            cfa: cfa_rule(steps.is_machine, steps.frame()),
+            return_address: return_rule(steps.is_machine, steps.frame()),
+            saved: saved_rules(codes, offset, steps),
+        }
+    }
+
+    /// The rule of a register, if there is one.
+    pub fn rule(&self, register: Register) -> Option<Expression>
+        ensures { result ≡ rule_in self.now register }
+    {
+        match register {
+            Register::Cfa => Some(self.cfa),
+            Register::ReturnAddress => Some(self.return_address),
+            Register::General(number) => match self.saved.get(usize::from(number)) {
+                Some(rule) => *rule,
+                None => None,
+            },
+        }
+    }
+}
+
+/// So many bytes less so many.
+fn difference(up: u64, down: u64) -> i64
+    requires up { up < 2 ^ 62 }
+    requires down { down < 2 ^ 62 }
+    ensures { result ≡ signed up down }
+{
+    up as i64 - down as i64
+}
+
+/// The sum of a general register and a number.
+fn sum_of(base: u8, offset: i64) -> Expression
+    ensures { result ≡ record { base = Register.General base; offset = offset; is_read = false } }
+{
+    Expression {
+        base: Register::General(base),
+        offset,
+        is_read: false,
+    }
+}
+
+/// The eight bytes at the sum of a register and a number.
+fn read_at(base: Register, offset: i64) -> Expression
+    ensures { result ≡ record { base = base; offset = offset; is_read = true } }
+{
+    Expression {
+        base,
+        offset,
+        is_read: true,
+    }
+}
+
+/// How the caller's stack pointer is found.
+fn cfa_rule(is_machine: bool, frame: Frame) -> Expression
+    requires { frame.low < 2 ^ 48 }
+    ensures { result ≡ cfa_rule_of is_machine frame }
+{
+    let down = u64::from(frame.offset);
+    if is_machine {
+        read_at(
+            Register::General(frame.register),
+            difference(frame.low + 24, down),
+        )
+    } else {
+        sum_of(frame.register, difference(frame.low + 8, down))
+    }
+}
+
+/// How the return address is found.
+fn return_rule(is_machine: bool, frame: Frame) -> Expression
+    requires { frame.low < 2 ^ 48 }
+    ensures { result ≡ return_rule_of is_machine frame }
+{
+    if is_machine {
+        let offset = difference(frame.low, u64::from(frame.offset));
+        read_at(Register::General(frame.register), offset)
+    } else {
+        read_at(Register::Cfa, -8)
+    }
+}
+
+/// How a register that was saved there is found.
+fn saved_rule(is_machine: bool, frame: Frame, saved: Saved) -> Expression
+    requires low { frame.low < 2 ^ 48 }
+    requires saved { IsShort saved }
+    ensures { result ≡ saved_rule_of is_machine frame saved }
+{
+    let base = u64::from(frame.offset);
+    match saved {
+        Saved::Below(depth) if is_machine => read_at(
+            Register::General(frame.register),
+            difference(frame.low, base + depth),
+        ),
+        Saved::Below(depth) => read_at(Register::Cfa, difference(0, depth + 8)),
+        Saved::Above(offset) if is_machine => read_at(
+            Register::General(frame.register),
+            difference(u64::from(offset), base),
+        ),
+        Saved::Above(offset) => {
+            read_at(Register::Cfa, difference(u64::from(offset), frame.low + 8))
+        }
+    }
+}
+
+/// How a general register is found, if it was saved by the steps that are done at an offset.
+fn register_rule(
+    codes: &[UnwindCode],
+    offset: u32,
+    steps: Steps,
+    register: u8,
+) -> Option<Expression>
+    requires steps { steps ≡ steps_of (done offset codes.now) }
+    requires depth { steps.depth < 2 ^ 48 }
+    requires low { IfSome steps.frame (λ f. f.low ≤ steps.depth) }
+    ensures { result ≡ register_rule_of (done offset codes.now) register }
+{
+    match saved_at(codes, offset, steps.depth, register) {
+        Some(saved) => Some(saved_rule(steps.is_machine, steps.frame(), saved)),
+        None => None,
+    }
+}
+
+/// How the general registers that were saved are found, by their numbers.
+fn saved_rules(codes: &[UnwindCode], offset: u32, steps: Steps) -> [Option<Expression>; 16]
+    requires steps { steps ≡ steps_of (done offset codes.now) }
+    requires depth { steps.depth < 2 ^ 48 }
+    requires low { IfSome steps.frame (λ f. f.low ≤ steps.depth) }
+    ensures { result ≡ map (register_rule_of (done offset codes.now)) (range_with_len 0 16) }
+{
+    let mut rules = [None; 16];
+    for register in 0..16u8 {
+        rules[usize::from(register)] = register_rule(codes, offset, steps, register);
+    }
+    rules
+}
