@@ -1,4 +1,5 @@
 pub mod Address
+pub mod Answering
 pub mod InputFaultText
 pub mod InputFaults
 pub mod InputLines

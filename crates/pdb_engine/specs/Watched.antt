@@ -1,6 +1,6 @@
 -- What a watched reader or writer stores, and what a call may change of it.
 use Rattle.std.specs.Prelude.{◌≡◌, ℕ, zero, suc, ◌+◌, ◌-◌, ◌^◌, ◌<◌, min, List, ◌++◌, length}
-use Rattle.std.specs.Prelude.{Option, Some, Result, Ok, Err}
+use Rattle.std.specs.Prelude.{Option, Some, Result, Ok, Err, MatchResult}
 use Rattle.std.specs.declared.io.Error.{Error}
 use Rattle.std.specs.declared.io.ErrorKind.{ErrorKind}
 use Rattle.std.specs.declared.io.ErrorKind.TheVariants.{WriteZero}
@@ -32,12 +32,21 @@ pub record IsQuiet {T : Type 0} (old new : Watched T) : Type 0 where
   pub same_failures : failures_of new ≡ failures_of old
   pub same_kind : last_kind_of new ≡ last_kind_of old
 
+-- a read fails by its error
+abbrev pub WatchesRead : {X T : Type 0} → Watched T → Watched T → Result X Error → Type 0
+WatchesRead old new result =
+    MatchResult result (λ _. IsQuiet old new) (λ e. CountsFailure old new (error_kind e))
+
 -- a write fails by its error, and as `WriteZero` where it takes none of some bytes
 abbrev pub WatchesWrite : {T : Type 0} → Watched T → Watched T → List ℕ → Result ℕ Error → Type 0
 WatchesWrite old new bytes (Ok (suc n)) = IsQuiet old new
 WatchesWrite old new bytes (Ok zero) =
     (0 < length bytes → CountsFailure old new WriteZero) × (length bytes ≡ 0 → IsQuiet old new)
 WatchesWrite old new bytes (Err e) = CountsFailure old new (error_kind e)
+
+-- a prefix of the text was appended to what a writer holds, where that is known
+abbrev pub AppendsFront : Option (List ℕ) → Option (List ℕ) → List ℕ → Type 0
+AppendsFront old new text = (out : List ℕ) × Appends old new out × Begins out text
 
 -- the text was appended to what the writer holds, where that is known
 abbrev pub Writes : {T : Type 0} → (T → Option (List ℕ)) → Watched T → Watched T → List ℕ → Type 0

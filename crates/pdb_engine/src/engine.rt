@@ -1,14 +1,18 @@
 //! Reads lines, and writes the answer to each.
 
-ghost use Rattle.std.specs.Prelude.{◌≡◌, ℕ, List, OnOk, OnErr, IfOk, IfErr, IfSome, [], ◌∷◌};
-ghost use Rattle.std.specs.Prelude.{◌++◌, length, ◌<◌, ◌≤◌, take};
+ghost use Rattle.std.specs.Prelude.{◌≡◌, ℕ, List, OnOk, OnErr, IfOk, IfErr, [], ◌∷◌};
+ghost use Rattle.std.specs.Prelude.{◌++◌, length, ◌<◌, ◌≤◌};
 ghost use Rattle.std.specs.List.{flat_map};
 ghost use Rattle.std.specs.Io.KnownBytes.{IsAtEnd};
 ghost use Rattle.pdb_engine.specs.Watched.{inner_of, CountsFailure, IsQuiet, Writes, WritesAllBut};
 ghost use Rattle.pdb_engine.specs.Watched.{WritesFront, Takes};
-ghost use Rattle.pdb_engine.specs.InputLines.{kept_lines, kept_rest, report, report_of_ended};
+ghost use Rattle.pdb_engine.specs.InputLines.{report_of_ended};
+ghost use Rattle.pdb_engine.specs.Answering.{DecideAnswers, IfReadFails, IfTooLong, Reports};
+ghost use Rattle.pdb_engine.specs.Answering.{ReportsFirst, ReportsFront, ended_answers, StoresRest};
+ghost use Rattle.pdb_engine.specs.Answering.{AnswersTaken, AnswersFirst, AnswersFront, AnswersAll};
+ghost use Rattle.pdb_engine.specs.Answering.{AnswersRead};
 ghost use Rattle.pdb_engine.specs.Requests.{lines_of, AreAnswered, IsAnswered};
-ghost use Rattle.pdb_engine.specs.InputFaults.{OnRead, OnWrite, OnTooLong, IsOfWriting};
+ghost use Rattle.pdb_engine.specs.InputFaults.{OnRead, OnWrite, IsOfWriting};
 ghost use Rattle.pdb_engine.specs.InputFaults.{IsOfRunning, EndsAtWrite, EndsWriting, EndsRunning};
 
 use crate::answers::Answers;
@@ -60,11 +64,10 @@ pub fn run<A: Answers, R: Read, W: Write>(
     limit: u64,
 ) -> Result<(), InputFault>
     // Every line is answered, and nothing else is written.
-    requires { A.known answers.old → (line : List ℕ) → A.text answers.old (take A.Start.limit line)
-        ≡ A.text answers.old line }
+    requires { A.known answers.old → DecideAnswers A.Start.limit (A.text answers.old) }
     ensures ok { A.known answers.new → OnOk result
-        (IfSome (R.remaining (inner_of reader.old)) (λ input. (length input ≤ limit)
-        × Writes W.contents writer.old writer.new (report (A.text answers.old) input))) }
+        (Reports R.remaining W.contents reader.old writer.old writer.new limit
+        (A.text answers.old)) }
     // What is known at the end was known at the start.
     ensures grows { A.known answers.new → A.known answers.old }
     // Running changes no answer.
@@ -81,18 +84,16 @@ pub fn run<A: Answers, R: Read, W: Write>(
     ensures ends { IfErr result
         (λ fault. EndsRunning fault reader.old reader.new writer.old writer.new) }
     // The lines that were read whole before a failed read are answered.
-    ensures read_out { A.known answers.new → IfErr result (λ fault. OnRead fault (λ _.
-        (taken : List ℕ) × Takes R.remaining reader.old reader.new taken
-        × Writes W.contents writer.old writer.new
-        (report_of_ended (A.text answers.old) taken))) }
-    ensures too_long { A.known answers.new → IfErr result (λ fault. OnTooLong fault
-        (IfSome (R.remaining (inner_of reader.old)) (λ input. (limit < length input)
-        × Writes W.contents writer.old writer.new
-        (report_of_ended (A.text answers.old) (take limit input))))) }
+    ensures read_out { A.known answers.new → IfReadFails result
+        (AnswersTaken R.remaining W.contents reader.old reader.new writer.old writer.new
+        (report_of_ended (A.text answers.old))) }
+    ensures too_long { A.known answers.new → IfTooLong result
+        (ReportsFirst R.remaining W.contents reader.old writer.old writer.new limit
+        (A.text answers.old)) }
     // At each fault a prefix of the report is out.
     ensures part { A.known answers.new → OnErr result
-        (IfSome (R.remaining (inner_of reader.old)) (λ input.
-        WritesFront W.contents writer.old writer.new (report (A.text answers.old) input))) }
+        (ReportsFront R.remaining W.contents reader.old writer.old writer.new
+        (A.text answers.old)) }
 {
     let Ok(chunk) = vec![in alloc; 0u8; READ_SIZE] else {
         return Err(InputFault::OutOfMemory);
@@ -132,13 +133,8 @@ fn pump<A: Answers, R: Read, W: Write>(
 ) -> Result<(), InputFault>
     requires { 0 < length buffers.old.chunk.items }
     ensures ok { A.known answers.new → OnOk result
-        ((taken : List ℕ) × Takes R.remaining reader.old reader.new taken
-        × IsAtEnd (R.remaining (inner_of reader.new)) × (length taken ≤ limit)
-        × Writes W.contents writer.old writer.new
-        (flat_map (A.text answers.old) (kept_lines A.Start.limit
-        (A.Start.kept buffers.old.start) taken))
-        × (A.Start.kept buffers.new.start ≡ kept_rest A.Start.limit
-        (A.Start.kept buffers.old.start) taken)) }
+        (AnswersAll A.Start.LineStart R.remaining W.contents (A.text answers.old) limit
+        reader.old reader.new writer.old writer.new buffers.old.start buffers.new.start) }
     ensures quiet { OnOk result (IsQuiet reader.old reader.new × IsQuiet writer.old writer.new) }
     ensures grows { A.known answers.new → A.known answers.old }
     ensures same { A.text answers.new ≡ A.text answers.old }
@@ -146,22 +142,15 @@ fn pump<A: Answers, R: Read, W: Write>(
     ensures kind { IfErr result IsOfRunning }
     ensures ends { IfErr result
         (λ fault. EndsRunning fault reader.old reader.new writer.old writer.new) }
-    ensures read_out { A.known answers.new → IfErr result (λ fault. OnRead fault (λ _.
-        (taken : List ℕ) × Takes R.remaining reader.old reader.new taken
-        × Writes W.contents writer.old writer.new
-        (flat_map (A.text answers.old) (kept_lines A.Start.limit
-        (A.Start.kept buffers.old.start) taken)))) }
-    ensures too_long { A.known answers.new → IfErr result (λ fault. OnTooLong fault
-        ((taken : List ℕ) × Takes R.remaining reader.old reader.new taken
-        × (limit < length taken)
-        × Writes W.contents writer.old writer.new
-        (flat_map (A.text answers.old) (kept_lines A.Start.limit (A.Start.kept buffers.old.start)
-        (take limit taken))))) }
+    ensures read_out { A.known answers.new → IfReadFails result
+        (AnswersTaken R.remaining W.contents reader.old reader.new writer.old writer.new
+        (ended_answers A.Start.LineStart (A.text answers.old) buffers.old.start)) }
+    ensures too_long { A.known answers.new → IfTooLong result
+        (AnswersFirst R.remaining W.contents limit reader.old reader.new writer.old writer.new
+        (ended_answers A.Start.LineStart (A.text answers.old) buffers.old.start)) }
     ensures part { A.known answers.new → OnErr result
-        ((taken : List ℕ) × Takes R.remaining reader.old reader.new taken
-        × WritesFront W.contents writer.old writer.new
-        (flat_map (A.text answers.old) (kept_lines A.Start.limit
-        (A.Start.kept buffers.old.start) taken))) }
+        (AnswersFront R.remaining W.contents reader.old reader.new writer.old writer.new
+        (ended_answers A.Start.LineStart (A.text answers.old) buffers.old.start)) }
 {
     let mut left = limit;
     'reads: loop {
@@ -190,14 +179,9 @@ fn answer_read<A: Answers, R: Read, W: Write>(
     requires { 0 < length buffers.old.chunk.items }
     ensures room { 0 < length buffers.new.chunk.items }
     // The answers to the lines that end in what was read are out, and the rest of it is stored.
-    ensures ok { A.known answers.new → IfOk result (λ count.
-        (taken : List ℕ) × Takes R.remaining reader.old reader.new taken
-        × (length taken ≡ count) × (count ≤ left)
-        × Writes W.contents writer.old writer.new
-        (flat_map (A.text answers.old) (kept_lines A.Start.limit
-        (A.Start.kept buffers.old.start) taken))
-        × (A.Start.kept buffers.new.start ≡ kept_rest A.Start.limit
-        (A.Start.kept buffers.old.start) taken)) }
+    ensures ok { A.known answers.new → IfOk result
+        (AnswersRead A.Start.LineStart R.remaining W.contents (A.text answers.old) left
+        reader.old reader.new writer.old writer.new buffers.old.start buffers.new.start) }
     ensures bound { IfOk result (λ count. count ≤ left) }
     ensures end { IfOk result (λ count. count ≡ 0 → IsAtEnd (R.remaining (inner_of reader.new))) }
     ensures quiet { OnOk result (IsQuiet reader.old reader.new × IsQuiet writer.old writer.new) }
@@ -208,19 +192,14 @@ fn answer_read<A: Answers, R: Read, W: Write>(
     ensures ends { IfErr result
         (λ fault. EndsRunning fault reader.old reader.new writer.old writer.new) }
     // A read that failed is the only one: nothing was taken before it, and nothing written.
-    ensures read_once { IfErr result (λ fault. OnRead fault (λ _.
-        Takes R.remaining reader.old reader.new [] × (writer.new ≡ writer.old))) }
-    ensures too_long { A.known answers.new → IfErr result (λ fault. OnTooLong fault
-        ((taken : List ℕ) × Takes R.remaining reader.old reader.new taken
-        × (left < length taken)
-        × Writes W.contents writer.old writer.new
-        (flat_map (A.text answers.old) (kept_lines A.Start.limit (A.Start.kept buffers.old.start)
-        (take left taken))))) }
+    ensures read_once { IfReadFails result
+        (Takes R.remaining reader.old reader.new [] × (writer.new ≡ writer.old)) }
+    ensures too_long { A.known answers.new → IfTooLong result
+        (AnswersFirst R.remaining W.contents left reader.old reader.new writer.old writer.new
+        (ended_answers A.Start.LineStart (A.text answers.old) buffers.old.start)) }
     ensures part { A.known answers.new → OnErr result
-        ((taken : List ℕ) × Takes R.remaining reader.old reader.new taken
-        × WritesFront W.contents writer.old writer.new
-        (flat_map (A.text answers.old) (kept_lines A.Start.limit
-        (A.Start.kept buffers.old.start) taken))) }
+        (AnswersFront R.remaining W.contents reader.old reader.new writer.old writer.new
+        (ended_answers A.Start.LineStart (A.text answers.old) buffers.old.start)) }
 {
     let count = match reader.read(&mut buffers.chunk) {
         Ok(count) => count,
@@ -273,10 +252,10 @@ fn feed<A: Answers, W: Write>(
     bytes: &[u8],
 ) -> Result<(), InputFault>
     ensures ok { A.known answers.new → OnOk result
-        (Writes W.contents writer.old writer.new (flat_map (A.text answers.old)
-        (kept_lines A.Start.limit (A.Start.kept start.old) bytes.now))) }
-    ensures rest { OnOk result (A.Start.kept start.new ≡ kept_rest A.Start.limit
-        (A.Start.kept start.old) bytes.now) }
+        (Writes W.contents writer.old writer.new
+        (ended_answers A.Start.LineStart (A.text answers.old) start.old bytes.now)) }
+    ensures rest { OnOk result
+        (StoresRest A.Start.LineStart start.old start.new bytes.now) }
     ensures grows { A.known answers.new → A.known answers.old }
     ensures same { A.text answers.new ≡ A.text answers.old }
     ensures subject { A.subject answers.new ≡ A.subject answers.old }
@@ -284,8 +263,8 @@ fn feed<A: Answers, W: Write>(
     ensures kind { IfErr result IsOfWriting }
     ensures ends { IfErr result (λ fault. EndsWriting fault writer.old writer.new) }
     ensures part { A.known answers.new → OnErr result
-        (WritesFront W.contents writer.old writer.new (flat_map
-        (A.text answers.old) (kept_lines A.Start.limit (A.Start.kept start.old) bytes.now))) }
+        (WritesFront W.contents writer.old writer.new
+        (ended_answers A.Start.LineStart (A.text answers.old) start.old bytes.now)) }
 {
     let Ok(mut requests) = split(alloc, start, bytes) else {
         return Err(InputFault::OutOfMemory);

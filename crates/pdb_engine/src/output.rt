@@ -4,7 +4,7 @@ ghost use Rattle.std.specs.Prelude.{◌≡◌, ℕ, List, Option, OnOk, OnErr};
 ghost use Rattle.std.specs.Io.KnownBytes.{Appends};
 ghost use Rattle.std.specs.declared.io.ErrorKind.{ErrorKind as Kind};
 ghost use Rattle.pdb_engine.specs.Puts.{Puts};
-ghost use Rattle.pdb_engine.specs.InputLines.{Begins};
+ghost use Rattle.pdb_engine.specs.Watched.{AppendsFront};
 
 use crate::engine::write_all;
 use crate::watched::Watched;
@@ -63,8 +63,8 @@ impl<W: Write> ErrorOutput for W {
 /// The kind of that failure.
 fn write_plain<W: Write>(writer: &mut W, bytes: &[u8]) -> Result<(), ErrorKind>
     ensures ok { OnOk result (Appends (W.contents writer.old) (W.contents writer.new) bytes.now) }
-    ensures part { OnErr result ((out : List ℕ)
-        × Appends (W.contents writer.old) (W.contents writer.new) out × Begins out bytes.now) }
+    ensures part { OnErr result
+        (AppendsFront (W.contents writer.old) (W.contents writer.new) bytes.now) }
 {
     let mut rest = bytes;
     while !rest.is_empty() {

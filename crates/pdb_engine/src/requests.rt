@@ -1,10 +1,10 @@
 //! The lines that a read ends. Their answers are made in the order of the lines' places.
 
-ghost use Rattle.std.specs.Prelude.{◌≡◌, ◌++◌, [], ◌∷◌, ℕ, ◌<◌, ◌≤◌, true, false, List};
+ghost use Rattle.std.specs.Prelude.{◌≡◌, ◌++◌, [], ◌∷◌, ℕ, ◌<◌, ◌≤◌, false, List};
 ghost use Rattle.std.specs.Prelude.{length, Ok, OnOk, OnErr, IfOk};
 ghost use Rattle.pdb_engine.specs.InputLines.{kept_lines, kept_rest};
-ghost use Rattle.pdb_engine.specs.Requests.{lines_of, AreAnswered, IsAnswered, AreUnanswered};
-ghost use Rattle.pdb_engine.specs.Requests.{HasLast, HaveLast};
+ghost use Rattle.pdb_engine.specs.Requests.{lines_of, IsAnswered, HoldAnswers, AddsLines};
+ghost use Rattle.pdb_engine.specs.Requests.{AreUnanswered, MakesLast, HaveLast};
 
 use crate::answers::Answers;
 use crate::line_start::LineStart;
@@ -59,8 +59,8 @@ fn split_byte<L: LineStart>(
     start: &mut L,
     byte: u8,
 ) -> Result<(), AllocError>
-    ensures lines { OnOk result (lines_of L.kept requests.new.items
-        ≡ lines_of L.kept requests.old.items ++ kept_lines L.limit (L.kept start.old) (byte ∷ [])) }
+    ensures lines { OnOk result
+        (AddsLines L.LineStart requests.old requests.new start.old (byte ∷ [])) }
     ensures rest { OnOk result (L.kept start.new
         ≡ kept_rest L.limit (L.kept start.old) (byte ∷ [])) }
     ensures unanswered { AreUnanswered requests.old.items
@@ -95,7 +95,7 @@ pub fn split<L: LineStart>(
     start: &mut L,
     bytes: &[u8],
 ) -> Result<Vec<Request<L>>, AllocError>
-    ensures lines { IfOk result (λ requests. lines_of L.kept requests.items
+    ensures lines { IfOk result (λ ended. lines_of L.kept ended.items
         ≡ kept_lines L.limit (L.kept start.old) bytes.now) }
     ensures rest { OnOk result (L.kept start.new
         ≡ kept_rest L.limit (L.kept start.old) bytes.now) }
@@ -109,7 +109,7 @@ pub fn split<L: LineStart>(
 }
 
 /// A number in 32 bits. No read ends so many lines that their numbers don't fit.
-fn short_number(number: usize) -> Result<u32, AllocError> {
+fn short_index(number: usize) -> Result<u32, AllocError> {
     match u32::try_from(number) {
         Ok(short) => Ok(short),
         Err(_) => Err(AllocError),
@@ -125,7 +125,7 @@ fn turns<A: Answers>(
     let mut turns = Vec::with_capacity(alloc, requests.len())?;
     for (index, request) in requests.iter().enumerate() {
         let place = answers.place(request.line.bytes());
-        let index = short_number(index)?;
+        let index = short_index(index)?;
         turns.push(Turn { place, index })?;
     }
     Ok(turns)
@@ -148,12 +148,13 @@ fn answer_request<A: Answers>(
         (A.text answers.old) texts.new.items request.new }
     ensures grown { (more : List ℕ) × (texts.new.items ≡ texts.old.items ++ more) }
     // Where less than 8 MB of texts stand, one more is made and noted.
-    ensures room { length texts.old.items < 8388608 → IfOk result (λ is_made.
-        (is_made ≡ true) × HasLast texts.new.items request.new) }
+    ensures room { length texts.old.items < 8388608
+        → MakesLast result texts.new.items request.new }
     // Past that none is made: nobody is asked.
-    ensures full { 8388608 ≤ length texts.old.items → (result ≡ Ok false)
-        × (answers.new ≡ answers.old) × (texts.new.items ≡ texts.old.items)
-        × (request.new ≡ request.old) }
+    ensures full { 8388608 ≤ length texts.old.items → result ≡ Ok false }
+    ensures asks_none { 8388608 ≤ length texts.old.items → answers.new ≡ answers.old }
+    ensures makes_none { 8388608 ≤ length texts.old.items
+        → (texts.new.items ≡ texts.old.items) × (request.new ≡ request.old) }
     ensures refused { OnErr result
         ((texts.new.items ≡ texts.old.items) × (request.new ≡ request.old)) }
     ensures grows { A.known answers.new → A.known answers.old }
@@ -183,12 +184,12 @@ fn answer_numbered<A: Answers>(
     index: usize,
     texts: &mut Vec<u8>,
 ) -> Result<bool, AllocError>
-    requires { AreAnswered (A.known answers.old) A.Start.kept
-        (A.text answers.old) texts.old.items requests.old.items }
+    requires { HoldAnswers (A.known answers.old) A.Start.kept
+        (A.text answers.old) texts.old requests.old }
     ensures lines { lines_of A.Start.kept requests.new.items
         ≡ lines_of A.Start.kept requests.old.items }
-    ensures answered { AreAnswered (A.known answers.new) A.Start.kept
-        (A.text answers.old) texts.new.items requests.new.items }
+    ensures answered { HoldAnswers (A.known answers.new) A.Start.kept
+        (A.text answers.old) texts.new requests.new }
     // No text is made but those that are noted, of which each begins in the first 8 MB.
     ensures last { HaveLast texts.old.items requests.old.items
         → HaveLast texts.new.items requests.new.items }
@@ -210,12 +211,12 @@ fn answer_in_turn<A: Answers>(
     turns: &[Turn],
     texts: &mut Vec<u8>,
 ) -> Result<(), AllocError>
-    requires { AreAnswered (A.known answers.old) A.Start.kept
-        (A.text answers.old) texts.old.items requests.old.items }
+    requires { HoldAnswers (A.known answers.old) A.Start.kept
+        (A.text answers.old) texts.old requests.old }
     ensures lines { lines_of A.Start.kept requests.new.items
         ≡ lines_of A.Start.kept requests.old.items }
-    ensures answered { AreAnswered (A.known answers.new) A.Start.kept
-        (A.text answers.old) texts.new.items requests.new.items }
+    ensures answered { HoldAnswers (A.known answers.new) A.Start.kept
+        (A.text answers.old) texts.new requests.new }
     // No text is made but those that are noted, of which each begins in the first 8 MB.
     ensures last { HaveLast texts.old.items requests.old.items
         → HaveLast texts.new.items requests.new.items }
@@ -246,8 +247,8 @@ pub fn answer_ahead<A: Answers>(
     requires { AreUnanswered requests.old.items }
     ensures lines { lines_of A.Start.kept requests.new.items
         ≡ lines_of A.Start.kept requests.old.items }
-    ensures answered { AreAnswered (A.known answers.new) A.Start.kept
-        (A.text answers.old) texts.new.items requests.new.items }
+    ensures answered { HoldAnswers (A.known answers.new) A.Start.kept
+        (A.text answers.old) texts.new requests.new }
     // No text is made but those that are noted, of which each begins in the first 8 MB.
     ensures last { HaveLast texts.new.items requests.new.items }
     ensures grows { A.known answers.new → A.known answers.old }

@@ -1,9 +1,8 @@
 //! A reader or a writer whose failures are counted.
 
-ghost use Rattle.std.specs.Prelude.{◌≡◌, MatchResult, None};
+ghost use Rattle.std.specs.Prelude.{◌≡◌, None};
 ghost use Rattle.std.specs.Io.{ReadsAtMost, WritesAtMost};
 ghost use Rattle.std.specs.Io.KnownBytes.{ReadConsumes, WriteAppends};
-ghost use Rattle.std.specs.IoError.{error_kind};
 
 use std::io::{self, ErrorKind, Read, Write};
 
@@ -56,7 +55,7 @@ impl<T> Watched<T> {
 }
 
 impl<R: Read> Watched<R> {
-    ghost use Rattle.pdb_engine.specs.Watched.{inner_of, CountsFailure, IsQuiet};
+    ghost use Rattle.pdb_engine.specs.Watched.{inner_of, WatchesRead};
 
     /// Reads at most `buf.len()` bytes into the start of `buf`, and returns their number.
     ///
@@ -66,8 +65,7 @@ impl<R: Read> Watched<R> {
         ensures bound { ReadsAtMost result buf.new }
         ensures bytes { ReadConsumes (R.remaining (inner_of self.old))
             (R.remaining (inner_of self.new)) result buf.new }
-        ensures watch { MatchResult result (λ _. IsQuiet self.old self.new)
-            (λ e. CountsFailure self.old self.new (error_kind e)) }
+        ensures watch { WatchesRead self.old self.new result }
     {
         match self.inner.read(buf) {
             Ok(count) => Ok(count),

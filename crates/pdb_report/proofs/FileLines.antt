@@ -3,9 +3,9 @@ use Rattle.std.proofs.Common.{◌≡◌, ℕ, List, Result, subst}
 use Rattle.std.specs.Prelude.{Option, Some, IfSome}
 use Rattle.pdb_addr2line.specs.Context.{Context}
 use Rattle.pdb_loading.specs.ModuleInfos.{KeptInfo}
-use Rattle.pdb_databases.specs.Answer.{AnswersNamed, AnswersWith, answer_named, answer_with, answered_in}
-use Rattle.pdb_databases.specs.FileAnswers.{FileAnswers, IsContextOf, IsKnown, IsUnasked}
-use Rattle.pdb_databases.specs.FileFrames.{FindsHeldFrames}
+use Rattle.pdb_addr2line.specs.Answer.{AnswersNamed, AnswersWith, answer_named, answer_with, answered_in}
+use Rattle.pdb_addr2line.specs.FileAnswers.{FileAnswers, IsContextOf, IsKnown, IsUnasked}
+use Rattle.pdb_addr2line.specs.FileFrames.{FindsHeldFrames}
 use Rattle.pdb_owners.specs.Frames.{FunctionFrames}
 use Rattle.pdb_resolving.specs.declared.error.Error.{Error}
 use Rattle.pdb_symbols_modules.specs.Streams.{streams}

@@ -10,53 +10,45 @@ use Rattle.pdb_loading.specs.declared.load_fault.LoadFault.{LoadFault}
 use Rattle.pdb_loading.specs.declared.load_fault.LoadFault.TheVariants as faults
 use Rattle.pdb_loading.specs.declared.order.ContributionOrder.{ContributionOrder}
 use Rattle.pdb_loading.specs.LoadedFile.{FileBytes}
-use Rattle.pdb_loading.specs.LoadFaults.{Refuses}
+use Rattle.pdb_loading.specs.LoadFaults.{IsFileFault, Refuses}
 use Rattle.pdb_loading.specs.Loading.{LoadingFault, load_fault_with}
 use Rattle.pdb_report.specs.Answer.{answer_with}
 use Rattle.pdb_report.specs.FrameReports.{FramesOf, LineText, ReportsFramesIn, frames_with, frames_loaded}
-use Rattle.pdb_report_texts.specs.AddressText.{AddressAnswers}
-use Rattle.pdb_report_texts.specs.declared.fault.RunFault.{RunFault}
-use Rattle.pdb_report_texts.specs.declared.fault.RunFault.TheVariants as runs
-use Rattle.pdb_report_texts.specs.RunFaults.{run_fault_of, run_fault_of_input}
-use Rattle.pdb_report_texts.proofs.InputFaultSteps.{on_read, on_write, on_too_long, of_frames, on_memory, on_load, unless_load}
+use Rattle.pdb_report.specs.AddressText.{AddressAnswers}
+use Rattle.pdb_report.specs.declared.fault.RunFault.{RunFault}
+use Rattle.pdb_report.specs.declared.fault.RunFault.TheVariants as runs
+use Rattle.pdb_report.specs.RunFaults.{IsOfFrames, OnLoad, run_fault_of, run_fault_of_input}
+use Rattle.pdb_report.proofs.InputFaultSteps.{on_read, on_write, on_too_long, of_frames, on_memory, on_load, unless_load}
 use Rattle.pdb_symbols_modules.specs.Streams.{streams}
-use Rattle.pdb_report.proofs.FileFaults.{nothing_out}
+use Rattle.pdb_report.proofs.FileFaults.{IsOfOpening, if_memory, nothing_out, of_loading, of_memory}
 use Rattle.pdb_report.proofs.IsolationLaw.{exchanged_out, isolated}
 
 module _ {R W : Type 0} (text : LineText) (remaining : R → Option (List ℕ)) (contents : W → Option (List ℕ)) (limit : ℕ) where
+  -- a run ends by a fault of opening the file, with nothing read and nothing written
+  untouched : {T : Type 0} (f : FramesOf) (reader : Watched R) (writer : Watched W) (fault : RunFault) → IsOfOpening fault
+      → OnLoad fault (λ cause. IsFileFault cause f.fault × ((reader ≡ reader) × (writer ≡ writer))) → IsOfFrames fault
+      → ReportsFramesIn {T = T} text f limit remaining contents reader reader writer writer (Err fault)
+  untouched f reader writer fault opening load kind = record {
+    load = load;
+    loaded = opening.loaded _;
+    kind = kind;
+    memory = if_memory fault _ (inr (refl, refl));
+    ok = tt;
+    quiet = tt;
+    read_fails = opening.on_read _;
+    write_fails = opening.on_write _;
+    read_out = opening.on_read _;
+    too_long = opening.on_too_long _;
+    part = nothing_out contents writer (remaining (inner_of reader)) (report (text f.answer));
+    isolated = isolated f.bytes;
+    exchanged = tt;
+  }
+
   -- nothing was read and nothing written, where a file is refused
   pub refused : {T : Type 0} (f : FramesOf) (reader : Watched R) (writer : Watched W) (e : LoadFault) → Refuses e f.fault
       → ReportsFramesIn {T = T} text f limit remaining contents reader reader writer writer (Err (run_fault_of e))
-  refused f reader writer faults.OutOfMemory h = record {
-    load = tt;
-    loaded = tt;
-    kind = tt;
-    memory = inr (refl, refl);
-    ok = tt;
-    quiet = tt;
-    read_fails = tt;
-    write_fails = tt;
-    read_out = tt;
-    too_long = tt;
-    part = nothing_out contents writer (remaining (inner_of reader)) (report (text f.answer));
-    isolated = isolated f.bytes;
-    exchanged = tt;
-  }
-  refused f reader writer e h = record {
-    load = (h, (refl, refl));
-    loaded = tt;
-    kind = tt;
-    memory = tt;
-    ok = tt;
-    quiet = tt;
-    read_fails = tt;
-    write_fails = tt;
-    read_out = tt;
-    too_long = tt;
-    part = nothing_out contents writer (remaining (inner_of reader)) (report (text f.answer));
-    isolated = isolated f.bytes;
-    exchanged = tt;
-  }
+  refused f reader writer faults.OutOfMemory h = untouched f reader writer runs.OutOfMemory of_memory tt tt
+  refused f reader writer e h = untouched f reader writer _ (of_loading _) (h, (refl, refl)) tt
 
   -- nor where memory is short
   pub lacking : {T : Type 0} (f : FramesOf) (reader : Watched R) (writer : Watched W)

@@ -20,7 +20,7 @@ use Rattle.pdb_contributions.specs.declared.contribution.ModuleSectionContributi
 use Rattle.pdb_report.specs.Answer.{given_in, formatting_in, scope, answer_with, answer_by, function_with, function_by, answer_named, function_named, scope_named}
 use Rattle.pdb_report.specs.Isolation.{AreAlikeFor, IsRelated, modules_in, holder_by, holder_with, IsIsolated, exchanged_with, exchanged_if}
 use Rattle.pdb_report.specs.Isolation.IsRelated.{Itself, Reached}
-use Rattle.pdb_report_texts.specs.AddressText.{line_text, AddressAnswers}
+use Rattle.pdb_report.specs.AddressText.{line_text, AddressAnswers}
 use Rattle.pdb_resolving.specs.Reaches.{Reaches}
 use Rattle.pdb_resolving.specs.Resolving.{Modules, resolve}
 use Rattle.pdb_symbols_modules.specs.DatabaseCalls.{debug_information, names}

@@ -1,12 +1,16 @@
 pub mod AnyOrder
+pub mod DigitSteps
 pub mod FileFaults
 pub mod FileFrameSteps
 pub mod FileLines
 pub mod FrameSteps
+pub mod InputFaultSteps
 pub mod IsolationLaw
 pub mod NeededStreams
 pub mod OtherFiles
-pub mod SizeSums
 pub mod PageLayout
+pub mod Pieces
 pub mod RangeSteps
+pub mod SizeSums
+pub mod TextSteps
 pub mod ToldSteps

@@ -4,8 +4,8 @@ use Rattle.std.specs.Prelude.{Option, None, Some, IsErr, codes}
 use Rattle.pdb_engine.specs.Address.{address_of}
 use Rattle.pdb_resolving.specs.Fault.{Fault}
 use Rattle.pdb_owners.specs.Frames.{FunctionFrames}
-use Rattle.pdb_report_texts.specs.AddressText.{AddressAnswers, answer_text, line_text, text_at}
-use Rattle.pdb_report_texts.specs.JsonLine.{address_object, json_answer, json_at, json_line, json_other, unreadable_member}
+use Rattle.pdb_report.specs.AddressText.{AddressAnswers, answer_text, line_text, text_at}
+use Rattle.pdb_report.specs.JsonLine.{address_object, json_answer, json_at, json_line, json_other, unreadable_member}
 
 -- what was found is written
 pub found_text : (answered : Result (Option FunctionFrames) Fault) (x : Option FunctionFrames) → answered ≡ Ok x → answer_text (Ok x) ≡ answer_text answered

@@ -1,9 +1,9 @@
 -- Reports by a file that is read on demand.
-pub use Rattle.pdb_databases.specs.declared.file_on_demand.FileOnDemand.{FileOnDemand}
-use Rattle.pdb_report_texts.specs.declared.fault.RunFault.{RunFault}
-use Rattle.pdb_report_texts.specs.declared.fault.RunFault.TheVariants.{Load, ReversedRange, Read}
-use Rattle.pdb_report_texts.specs.declared.fault.RunFault.TheVariants.{Write, InputTooLong}
-use Rattle.pdb_report_texts.specs.declared.fault.RunFault.TheVariants.{File, OutOfMemory}
+pub use Rattle.pdb_addr2line.specs.declared.file_on_demand.FileOnDemand.{FileOnDemand}
+use Rattle.pdb_report.specs.declared.fault.RunFault.{RunFault}
+use Rattle.pdb_report.specs.declared.fault.RunFault.TheVariants.{Load, ReversedRange, Read}
+use Rattle.pdb_report.specs.declared.fault.RunFault.TheVariants.{Write, InputTooLong}
+use Rattle.pdb_report.specs.declared.fault.RunFault.TheVariants.{File, OutOfMemory}
 
 -- where memory ran out, or the file couldn't be read, this is said
 abbrev pub IfRefused : RunFault → Type 0 → Type 0

@@ -1,7 +1,7 @@
 -- Reports on lines of addresses: how a run on an input ends, and what is out then.
 use Rattle.std.specs.Prelude.{◌≡◌, ℕ, ◌^◌, ◌<◌, ◌≤◌, ◌⊎◌, true, List, length, take, Option, None}
 use Rattle.std.specs.Prelude.{Result, IfErr, IfSome, OnErr, OnOk}
-use Rattle.pdb_databases.specs.FileAnswers.{FileAnswers}
+use Rattle.pdb_addr2line.specs.FileAnswers.{FileAnswers}
 use Rattle.pdb_engine.specs.declared.watched.Watched.{Watched}
 use Rattle.pdb_engine.specs.InputLines.{report, report_of_ended}
 use Rattle.pdb_engine.specs.Watched.{inner_of, CountsFailure, IsQuiet, Takes, Writes, WritesFront}
@@ -14,11 +14,12 @@ use Rattle.pdb_loading.specs.Loading.{LoadingFault, load_fault_with}
 use Rattle.pdb_report.specs.Answer.{answer_with}
 use Rattle.pdb_report.specs.declared.file_report.FileRun.{FileRun}
 use Rattle.pdb_report.specs.FileReports.{FileOnDemand, IfRefused}
+pub use Rattle.pdb_report.specs.Forms.{LineText}
 use Rattle.pdb_report.specs.Isolation.{AreAlikeFor, IsIsolated, exchanged_with}
-use Rattle.pdb_report_texts.specs.AddressText.{AddressAnswers, line_text}
-use Rattle.pdb_report_texts.specs.declared.fault.RunFault.{RunFault}
-use Rattle.pdb_report_texts.specs.RunFaults.{OnLoad, OnMemory, OnRead, OnTooLong, OnWrite}
-use Rattle.pdb_report_texts.specs.RunFaults.{IsOfFileFrames, IsOfFrames, UnlessLoad}
+use Rattle.pdb_report.specs.AddressText.{AddressAnswers, line_text}
+use Rattle.pdb_report.specs.declared.fault.RunFault.{RunFault}
+use Rattle.pdb_report.specs.RunFaults.{OnLoad, OnMemory, OnRead, OnTooLong, OnWrite}
+use Rattle.pdb_report.specs.RunFaults.{IsOfFileFrames, IsOfFrames, UnlessLoad}
 use Rattle.pdb_symbols_modules.specs.Streams.{streams}
 
 -- what a report on lines goes over: a file's bytes, the order in which its section contributions
@@ -58,10 +59,6 @@ frames_of source = frames_with source.order source.contents.numbers
 -- the answers of a file by what was read of it
 abbrev pub answers_in : FileAnswers → AddressAnswers
 answers_in f = answer_with f.order (streams f.contents)
-
--- what is written for a line, by the answers
-abbrev pub LineText : Type 0
-LineText = AddressAnswers → List ℕ → List ℕ
 
 -- The report on an input of up to so many bytes, with what is written for a line: how the run ends,
 -- by what the reader has left and the writer contains, where that is known, and by both before and

@@ -10,7 +10,7 @@ use Rattle.pdb_container.specs.Alike.{OpenAlike, ReadAlike}
 use Rattle.pdb_container.specs.Fault as container
 use Rattle.pdb_report.specs.Answer.{answer_with, function_with, given_in}
 use Rattle.pdb_loading.specs.Loading.{Loaded, loaded_with, LoadingFault}
-use Rattle.pdb_report_texts.specs.AddressText.{line_text, AddressAnswers}
+use Rattle.pdb_report.specs.AddressText.{line_text, AddressAnswers}
 use Rattle.pdb_resolving.specs.Reaches.{Reaches}
 use Rattle.pdb_resolving.specs.Resolving.{Modules, none_failed}
 use Rattle.pdb_symbols_modules.specs.DatabaseCalls.{debug_information}

@@ -3,12 +3,15 @@ use Rattle.std.specs.Prelude.{◌≡◌, ℕ, ◌+◌, ◌<◌, ◌≤◌, ◌�
 use Rattle.std.specs.Global.{Global}
 use Rattle.std.specs.Prelude.{IfErr, IfOk, OnErr, OnOk, String, string_bytes}
 use Rattle.pdb_addresses.specs.Addresses.{Map}
+use Rattle.pdb_addr2line.specs.FileAnswers.{FileAnswers, file_of}
 use Rattle.pdb_engine.specs.declared.watched.Watched.{Watched}
 use Rattle.pdb_engine.specs.Watched.{CountsFailure, IsQuiet, Writes, WritesFront}
 use Rattle.pdb_file_views.specs.Views.{agrees}
 use Rattle.pdb_owners.specs.Counts.{pieces}
 use Rattle.pdb_owners.specs.Databases.{Database}
+use Rattle.pdb_owners.specs.FileAnswers.{FileAnswer}
 use Rattle.pdb_owners.specs.FileReport.{IsFileReport}
+use Rattle.pdb_owners.specs.FunctionOrder.{Function}
 use Rattle.pdb_owners.specs.Report.{IsReport}
 use Rattle.pdb_loading.specs.declared.order.ContributionOrder.{ContributionOrder}
 use Rattle.pdb_loading.specs.declared.order.ContributionOrder.TheVariants.{InOrder}
@@ -19,11 +22,11 @@ use Rattle.pdb_report.specs.Answer.{database_with, files_with}
 use Rattle.pdb_report.specs.declared.file_sizes.FileSizes.{FileSizes}
 use Rattle.pdb_report.specs.declared.sizes.Tally.{Tally}
 use Rattle.pdb_report.specs.FileReports.{FileOnDemand, IfRefused}
-use Rattle.pdb_report.specs.SizesReport.{AreWithinPieces, IsReportOn}
-use Rattle.pdb_report_texts.specs.declared.fault.RunFault.{RunFault}
-use Rattle.pdb_report_texts.specs.RunFaults.{IsOfFileSizes, IsOfSizes, OnCounted, OnLoad, OnMemory}
-use Rattle.pdb_report_texts.specs.RunFaults.{OnReversed, OnWrite, UnlessLoad}
-use Rattle.pdb_symbols_modules.specs.Streams.{Streams, streams}
+use Rattle.pdb_report.specs.SizesReport.{AreWithinPieces, CountedKind, IsReportOn}
+use Rattle.pdb_report.specs.declared.fault.RunFault.{RunFault}
+use Rattle.pdb_report.specs.RunFaults.{IsOfFileSizes, IsOfSizes, OnCounted, OnLoad, OnMemory}
+use Rattle.pdb_report.specs.RunFaults.{OnReversed, OnWrite, UnlessLoad}
+use Rattle.pdb_symbols_modules.specs.Streams.{streams}
 
 -- ---- what is counted
 
@@ -37,63 +40,69 @@ pub record SizesOf : Type 1 where
   pub is_within : ℕ → ℕ → ℕ → Type 0
 
 -- that of a file with this loading fault, by what is counted at its places
-abbrev pub sizes_by : {A : Type 0} → (Map → Database A → ℕ → ℕ → List ℕ → Type 0)
-    → (ContributionOrder → Streams → Database A) → Option LoadingFault → FileBytes → SizesOf
-sizes_by is_report places fault file = record {
+abbrev pub sizes_by : {A : Type 0} → CountedKind A → Option LoadingFault → FileBytes → SizesOf
+sizes_by kind fault file = record {
   bytes = file.bytes;
   fault = fault;
-  is_report = λ start end text. IsReportOn is_report (places file.order (streams file.bytes))
+  is_report = λ start end text. IsReportOn kind.is_report (kind.places file.order (streams
+      file.bytes))
       file.order (streams file.bytes) start end text;
-  is_within = λ start end lookups. AreWithinPieces (places file.order (streams file.bytes))
+  is_within = λ start end lookups. AreWithinPieces (kind.places file.order (streams file.bytes))
       file.order (streams file.bytes) start end lookups;
 }
 
 -- that of a file, by what is counted
-abbrev pub counted_with : {A : Type 0} → (Map → Database A → ℕ → ℕ → List ℕ → Type 0)
-    → (ContributionOrder → Streams → Database A) → ContributionOrder → List ℕ → SizesOf
-counted_with is_report places order bytes =
-    sizes_by is_report places (load_fault_with order (streams bytes))
+abbrev pub counted_with : {A : Type 0} → CountedKind A → ContributionOrder → List ℕ → SizesOf
+counted_with kind order bytes =
+    sizes_by kind (load_fault_with order (streams bytes))
     record { bytes = bytes; order = order }
 
 -- that of a file that was loaded, and so has no loading fault
-abbrev pub counted_loaded : {A : Type 0} → (Map → Database A → ℕ → ℕ → List ℕ → Type 0)
-    → (ContributionOrder → Streams → Database A) → FileBytes → SizesOf
-counted_loaded is_report places file = sizes_by is_report places None file
+abbrev pub counted_loaded : {A : Type 0} → CountedKind A → FileBytes → SizesOf
+counted_loaded kind file = sizes_by kind None file
 
 -- that of a file that is read on demand
-abbrev pub counted_of : {A F : Type 0} → (Map → Database A → ℕ → ℕ → List ℕ → Type 0)
-    → (ContributionOrder → Streams → Database A) → FileOnDemand F → SizesOf
-counted_of is_report places source =
-    counted_with is_report places source.order source.contents.numbers
+abbrev pub counted_of : {A F : Type 0} → CountedKind A → FileOnDemand F → SizesOf
+counted_of kind source = counted_with kind source.order source.contents.numbers
+
+-- that of a file that was loaded and is read on demand
+abbrev pub counted_held : {A : Type 0} → CountedKind A → FileAnswers → SizesOf
+counted_held kind f = counted_loaded kind (file_of f)
+
+-- functions, and source files
+abbrev pub by_function : CountedKind Function
+by_function = record { is_report = IsReport; places = database_with }
+
+abbrev pub by_source_file : CountedKind FileAnswer
+by_source_file = record { is_report = IsFileReport; places = files_with }
 
 -- that of a file by function, where section contributions have to stand in this order
 abbrev pub sizes_with : ContributionOrder → List ℕ → SizesOf
-sizes_with order bytes = counted_with IsReport database_with order bytes
+sizes_with order bytes = counted_with by_function order bytes
 
 abbrev pub sizes_in : List ℕ → SizesOf
 sizes_in bytes = sizes_with InOrder bytes
 
 abbrev pub sizes_of : {F : Type 0} → FileOnDemand F → SizesOf
-sizes_of source = counted_of IsReport database_with source
+sizes_of source = counted_of by_function source
 
 -- and by source file
 abbrev pub by_file_with : ContributionOrder → List ℕ → SizesOf
-by_file_with order bytes = counted_with IsFileReport files_with order bytes
+by_file_with order bytes = counted_with by_source_file order bytes
 
 abbrev pub by_file_in : List ℕ → SizesOf
 by_file_in bytes = by_file_with InOrder bytes
 
 abbrev pub by_file_of : {F : Type 0} → FileOnDemand F → SizesOf
-by_file_of source = counted_of IsFileReport files_with source
+by_file_of source = counted_of by_source_file source
 
 -- ---- a count
 
 -- A text is a report on a range by a context that was asked so often before, and counting took at
 -- most one lookup for each piece, and at most one answer.
-pub record CountsPlaces {A : Type 0} (is_report : Map → Database A → ℕ → ℕ → List ℕ → Type 0)
-    (m : Map) (db : Database A) (start end asked : ℕ) (counted : String Global × Tally)
-    : Type 0 where
-  pub text : is_report m db start end (string_bytes counted.0)
+pub record CountsPlaces {A : Type 0} (kind : CountedKind A) (m : Map) (db : Database A)
+    (start end asked : ℕ) (counted : String Global × Tally) : Type 0 where
+  pub text : kind.is_report m db start end (string_bytes counted.0)
   pub lookups : counted.1.lookups ≤ asked + pieces m db start end
   pub answered : counted.1.answered ≤ pieces m db start end
 

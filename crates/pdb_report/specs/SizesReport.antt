@@ -1,15 +1,26 @@
 -- Reports on a range: how many of its addresses each function has.
-use Rattle.std.specs.Prelude.{◌≡◌, ℕ, ◌≤◌, List, Some}
+use Rattle.std.specs.Prelude.{◌≡◌, ℕ, ◌≤◌, List, Option, Some, String, string_bytes}
+use Rattle.std.specs.Prelude.{option_and_then}
 use Rattle.std.specs.declared.cmp.Ordering.{Ordering}
 use Rattle.pdb_addresses.specs.Addresses.{Map}
 use Rattle.pdb_loading.specs.declared.order.ContributionOrder.{ContributionOrder}
 use Rattle.pdb_loading.specs.declared.order.ContributionOrder.TheVariants.{InOrder}
 use Rattle.pdb_owners.specs.Counts.{count, count_of_none, pieces}
-use Rattle.pdb_owners.specs.Databases.{Database}
+use Rattle.pdb_addresses.specs.declared.internal_section_offset.PdbInternalSectionOffset.{
+  PdbInternalSectionOffset,
+}
+use Rattle.pdb_owners.specs.Databases.{Database, Keyed, place_of}
 use Rattle.pdb_owners.specs.Report.{IsReport}
 use Rattle.pdb_owners.specs.Table.{IsTable, count_in}
 use Rattle.pdb_symbols_modules.specs.Streams.{Streams}
 use Rattle.pdb_report.specs.Answer.{map_with, database_with}
+
+-- What a report on a range is of: which texts are the report on the addresses from one on and
+-- before another, by what places have; and what a file's places have, by the order in which section
+-- contributions have to stand.
+pub record CountedKind (A : Type 0) : Type 1 where
+  pub is_report : Map → Database A → ℕ → ℕ → List ℕ → Type 0
+  pub places : ContributionOrder → Streams → Database A
 
 -- a table has how many addresses of a range have each answer; and how many have none
 pub record AreSizes {A : Type 0} (cmp : A → A → Ordering) (m : Map) (db : Database A)
@@ -18,6 +29,17 @@ pub record AreSizes {A : Type 0} (cmp : A → A → Ordering) (m : Map) (db : Da
   pub in_order : IsTable cmp table
   pub each : (a : A) → count_in cmp table a ≡ count cmp m db start end a
   pub none_is : none ≡ count_of_none m db start end
+
+-- A key stands for what a place has, and there is none where it has nothing.
+abbrev pub IsKeyAt : {K A : Type 0} → Keyed K A → PdbInternalSectionOffset → Option K → Type 0
+IsKeyAt keyed place key =
+    option_and_then keyed.answer_of key ≡ keyed.places.answer (place_of place)
+
+-- A text is the report of a kind on each range of which these are the counts, and that of nothing.
+abbrev pub ReportsCounts : {A Z : Type 0} → (A → A → Ordering) → CountedKind A → List (A × ℕ) → ℕ
+    → String Z → Type 0
+ReportsCounts {A} cmp kind table none text = (m : Map) (db : Database A) (start end : ℕ)
+    → AreSizes cmp m db start end table none → kind.is_report m db start end (string_bytes text)
 
 -- A text is a report of a kind on the addresses from one on and before another, by what places of
 -- a file have whose section contributions have to stand in this order.

@@ -1,20 +1,16 @@
 //! What reports of sizes count.
 
-ghost use Rattle.std.specs.Prelude.{◌≡◌, ℕ, ◌+◌, ◌-◌, ◌^◌, ◌≤◌, List, min, IfOk, OnOk};
-ghost use Rattle.std.specs.Prelude.{option_and_then};
-ghost use Rattle.std.specs.String.{string_bytes};
-ghost use Rattle.pdb_addresses.specs.Addresses.{Map};
+ghost use Rattle.std.specs.Prelude.{◌≡◌, ◌+◌, ◌-◌, ◌^◌, ◌≤◌, List, min, IfOk, OnOk};
 ghost use Rattle.pdb_addr2line.specs.Context.{Context as ContextValue};
 ghost use Rattle.pdb_loading.specs.ModuleInfos.{KeptInfo};
-ghost use Rattle.pdb_owners.specs.Databases.{Database, IsOneRun, Keyed, place_of};
+ghost use Rattle.pdb_owners.specs.Databases.{IsOneRun, Keyed, place_of};
 ghost use Rattle.pdb_loading.specs.declared.order.ContributionOrder.{ContributionOrder as Order};
 ghost use Rattle.pdb_report.specs.Answer.{AnswersWith, answered_in};
-ghost use Rattle.pdb_report.specs.SizesReport.{AreSizes};
+ghost use Rattle.pdb_report.specs.SizesReport.{CountedKind, IsKeyAt, ReportsCounts};
 ghost use Rattle.pdb_symbols_modules.specs.Streams.{Streams};
 
-use pdb_addr2line::Function;
+use pdb_addr2line::{FileContext, Function};
 use pdb_addresses::PdbInternalSectionOffset;
-use pdb_databases::FileContext;
 use pdb_owners::{
     Countable, CountedFile, FileKey, FunctionKey, Runs, Sizes, by_file_text, sizes_text,
 };
@@ -28,9 +24,7 @@ pub(crate) trait Counted: Countable {
 
     ghost keyed: { ContextValue (List KeptInfo) → Keyed Self.Key Self };
 
-    ghost places: { Order → Streams → Database Self };
-
-    ghost is_report: { Map → Database Self → ℕ → ℕ → List ℕ → Type 0 };
+    ghost kind: { CountedKind Self };
 
     /// Returns a key of the answer at a place, and over how many places from it on there is no
     /// bound, `limit` at most. It is counted as a lookup.
@@ -41,8 +35,8 @@ pub(crate) trait Counted: Countable {
         limit: u32,
     ) -> Result<(Option<Self::Key>, u32), AllocError>
         requires some { 1 ≤ limit }
-        ensures answer { IfOk result (λ run. option_and_then (keyed context.old).answer_of run.0
-            ≡ ((keyed context.old).places).answer (place_of place)) }
+        ensures answer { IfOk result
+            (λ run. IsKeyAt (keyed context.old) place run.0) }
         ensures count { IfOk result (λ run. IsOneRun (keyed context.old).places
             (place_of place) limit run.1) }
         ensures same { keyed context.new ≡ keyed context.old }
@@ -61,26 +55,22 @@ pub(crate) trait Counted: Countable {
 
     /// Returns the text of a report with these counts.
     fn report_text(alloc: Global, sizes: &Sizes<Self>) -> Result<String, AllocError>
-        ensures { IfOk result (λ text. (m : Map) (db : Database Self) (start end : ℕ)
-            → AreSizes Self.cmp m db start end sizes.now.counts sizes.now.none
-            → is_report m db start end (string_bytes text)) };
+        ensures { IfOk result (ReportsCounts Self.cmp kind sizes.now.counts sizes.now.none) };
 
     ghost of_file: { (order : Order) (s : Streams) (c : ContextValue (List KeptInfo))
-        → AnswersWith order answered_in s c → (keyed c).places ≡ places order s };
+        → AnswersWith order answered_in s c → (keyed c).places ≡ kind.places order s };
 }
 
 /// Functions, in the order of start, end and name.
 impl Counted for Function {
-    ghost use Rattle.pdb_owners.specs.Report.{IsReport};
-    ghost use Rattle.pdb_report.specs.Answer.{database_with, keyed_in};
+    ghost use Rattle.pdb_report.specs.Answer.{keyed_in};
+    ghost use Rattle.pdb_report.specs.RangeReports.{by_function};
 
     type Key = FunctionKey;
 
     ghost keyed = { keyed_in answered_in };
 
-    ghost places = { database_with };
-
-    ghost is_report = { IsReport };
+    ghost kind = { by_function };
 
     ghost of_file = { λ order s c answers. answers.places };
 
@@ -114,16 +104,14 @@ impl Counted for Function {
 
 /// Files, by their kind, and those that are known in the order of their texts' bytes.
 impl Counted for CountedFile {
-    ghost use Rattle.pdb_owners.specs.FileReport.{IsFileReport};
-    ghost use Rattle.pdb_report.specs.Answer.{files_with, files_keyed_in};
+    ghost use Rattle.pdb_report.specs.Answer.{files_keyed_in};
+    ghost use Rattle.pdb_report.specs.RangeReports.{by_source_file};
 
     type Key = FileKey;
 
     ghost keyed = { files_keyed_in answered_in };
 
-    ghost places = { files_with };
-
-    ghost is_report = { IsFileReport };
+    ghost kind = { by_source_file };
 
     ghost of_file = { λ order s c answers. answers.by_file };
 

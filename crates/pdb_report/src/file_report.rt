@@ -1,28 +1,26 @@
 //! The report on an input, by a file that is read on demand.
 
-ghost use Rattle.std.specs.Prelude.{◌≡◌, ◌++◌, ◌^◌, OnOk, true};
-ghost use Rattle.pdb_databases.specs.FileAnswers.{IsKnown, file_of};
+ghost use Rattle.std.specs.Prelude.{◌≡◌, ◌^◌, true};
+ghost use Rattle.pdb_addr2line.specs.FileAnswers.{IsKnown, file_of};
 ghost use Rattle.pdb_file_views.specs.Views.{agrees, Grows};
 ghost use Rattle.pdb_report.specs.FrameReports.{ExchangesFrames, ExchangesFramesIn};
 ghost use Rattle.pdb_report.specs.FrameReports.{ReportsFileFrames, ReportsFileFramesIn};
 ghost use Rattle.pdb_report.specs.FrameReports.{ReportsIfKnown, answers_in, frames_loaded};
 ghost use Rattle.pdb_report.specs.FrameReports.{frames_of};
 ghost use Rattle.pdb_report.specs.Isolation.{IsIsolated};
-ghost use Rattle.pdb_report_texts.specs.RunFaults.{OnMemoryOrFile};
+ghost use Rattle.pdb_report.specs.Adds.{Adds};
+ghost use Rattle.pdb_report.specs.RunFaults.{OnMemoryOrFile};
 
+use crate::fault::RunFault;
 use crate::forms::{LineForm, TextLines};
 use crate::lines::append_text;
-use crate::report::{AtEnd, let_go};
-use pdb_databases::{FileOnDemand, FileSymbolizer, NotLoaded, TRIES};
+use crate::report::{AtEnd, INPUT_LIMIT, let_go};
+use pdb_addr2line::{FileOnDemand, FileSymbolizer, NotLoaded, TRIES};
 use pdb_engine::{Answers, InputFault, LineStart, Request, Watched, parse_address, run};
-use pdb_report_texts::RunFault;
 use std::alloc::{AllocError, Global};
 use std::io::{ErrorKind, Read, Write};
 use std::marker::{Model, PhantomData};
 use std::os::unix::fs::FileExt;
-
-/// The most bytes of input that a run reads, as of a file that is in memory.
-const INPUT_LIMIT: u64 = 1 << 30;
 
 /// A file that is asked for the answers to lines, whose names are made with the default flags; room
 /// for a text; whether nothing was missing when the file was last to be read; how reading it failed,
@@ -38,7 +36,7 @@ struct FileLines<'a, F: Drop, L> {
 
 impl<'a, F: Drop, L> Model for FileLines<'a, F, L> {
     ghost use Rattle.std.specs.Prelude.{◌≡◌};
-    ghost use Rattle.pdb_databases.specs.FileAnswers.{FileAnswers};
+    ghost use Rattle.pdb_addr2line.specs.FileAnswers.{FileAnswers};
 
     ghost Value = { FileAnswers };
 
@@ -63,8 +61,8 @@ fn append_held_line<L: LineForm, F: Drop>(
     ensures order { symbolizer.new.order ≡ symbolizer.old.order }
     ensures flags { symbolizer.new.flags ≡ symbolizer.old.flags }
     ensures views { symbolizer.new.views ≡ symbolizer.old.views }
-    ensures text { IsKnown symbolizer.new → OnOk result (room.new.items ≡ room.old.items
-        ++ L.text (answers_in symbolizer.old) line.now) }
+    ensures text { IsKnown symbolizer.new → Adds result room.old room.new
+        (L.text (answers_in symbolizer.old) line.now) }
 {
     match parse_address(line) {
         None => L::append_other(alloc, line, room),
@@ -121,7 +119,7 @@ impl<'a, F: FileExt + Drop, L: LineForm> Answers for FileLines<'a, F, L> {
     type Start = L::Start;
 
     ghost use Rattle.pdb_report.specs.Answer.{answer_with};
-    ghost use Rattle.pdb_databases.specs.FileAnswers.{IsKnown};
+    ghost use Rattle.pdb_addr2line.specs.FileAnswers.{IsKnown};
     ghost use Rattle.pdb_symbols_modules.specs.Streams.{streams};
 
     ghost known = { λ lines. IsKnown lines };

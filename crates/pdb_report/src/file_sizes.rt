@@ -1,20 +1,19 @@
 //! Reports on a range of addresses, by a file that is read on demand.
 
 ghost use Rattle.std.specs.Prelude.{◌≡◌, ◌≤◌, IfErr, IfOk};
-ghost use Rattle.pdb_databases.specs.FileAnswers.{IsKnown, IsUnasked, file_of};
+ghost use Rattle.pdb_addr2line.specs.FileAnswers.{IsKnown, IsUnasked};
 ghost use Rattle.pdb_file_views.specs.Views.{Grows};
 ghost use Rattle.pdb_report.specs.RangeReports.{CountsFileSizes, CountsIfKnown, IsCounted};
-ghost use Rattle.pdb_report.specs.RangeReports.{by_file_of, counted_loaded, counted_of, sizes_of};
-ghost use Rattle.pdb_report_texts.specs.RunFaults.{OnMemoryOrFile};
+ghost use Rattle.pdb_report.specs.RangeReports.{by_file_of, counted_held, counted_of, sizes_of};
+ghost use Rattle.pdb_report.specs.RunFaults.{OnMemoryOrFile};
 
 use crate::counted::Counted;
+use crate::fault::RunFault;
 use crate::file_report::memory_fault;
 use crate::sizes::{Tally, count_text};
-use pdb_addr2line::Function;
-use pdb_databases::{FileOnDemand, FileSymbolizer, NotLoaded, TRIES};
+use pdb_addr2line::{FileOnDemand, FileSymbolizer, Function, NotLoaded, TRIES};
 use pdb_engine::{Watched, write_all, write_fault};
 use pdb_owners::CountedFile;
-use pdb_report_texts::RunFault;
 use std::alloc::{AllocError, Global};
 use std::io::Write;
 use std::os::unix::fs::FileExt;
@@ -40,7 +39,7 @@ fn count_held<A: Counted, F: Drop>(
     ensures views { symbolizer.new.views ≡ symbolizer.old.views }
     ensures unasked { IsUnasked symbolizer.new }
     ensures counted { IsKnown symbolizer.new → IfOk result
-        (IsCounted (counted_loaded A.is_report A.places (file_of symbolizer.old)) start end) }
+        (IsCounted (counted_held A.kind symbolizer.old) start end) }
 {
     let Some(context) = symbolizer.take_context() else {
         return Err(AllocError);
@@ -68,7 +67,7 @@ fn count_file<A: Counted, F: FileExt + Drop>(
     ensures grows { Grows symbolizer.old.views symbolizer.new.views }
     ensures kind { IfErr result OnMemoryOrFile }
     ensures counted { IsKnown symbolizer.new → IfOk result
-        (IsCounted (counted_loaded A.is_report A.places (file_of symbolizer.old)) start end) }
+        (IsCounted (counted_held A.kind symbolizer.old) start end) }
 {
     symbolizer.ask_between(alloc, start, end);
     match symbolizer.go_on(alloc) {
@@ -117,7 +116,7 @@ fn write_file_report<A: Counted, F: FileExt + Drop, W: Write>(
     ensures same { symbolizer.new.order ≡ symbolizer.old.order }
     ensures grows { IsKnown symbolizer.new → IsKnown symbolizer.old }
     ensures run { CountsIfKnown (IsKnown symbolizer.new)
-        (counted_loaded A.is_report A.places (file_of symbolizer.old)) start end
+        (counted_held A.kind symbolizer.old) start end
         W.contents writer.old writer.new result }
 {
     if end < start {
@@ -143,7 +142,7 @@ fn run_file_report<'a, A: Counted, F: FileExt + Drop, W: Write>(
     end: u32,
     writer: &mut Watched<W>,
 ) -> FileSizes<'a, F>
-    ensures { CountsFileSizes (counted_of A.is_report A.places source.entry) start end
+    ensures { CountsFileSizes (counted_of A.kind source.entry) start end
         W.contents writer.old writer.new result }
 {
     match FileSymbolizer::open(alloc, source) {

@@ -1,17 +1,15 @@
 //! Forms of reports on lines: as text, and as JSON.
 
-ghost use Rattle.std.specs.Prelude.{◌≡◌, ◌++◌, List, None, OnOk, Some, codes, take, ℕ};
-ghost use Rattle.pdb_databases.specs.FileFrames.{FindsHeldFrames};
-ghost use Rattle.pdb_engine.specs.Address.{address_of};
-ghost use Rattle.pdb_report_texts.specs.AddressText.{AddressAnswers, text_at};
-ghost use Rattle.pdb_report_texts.specs.JsonLine.{address_object, json_answer};
+ghost use Rattle.std.specs.Prelude.{◌≡◌, List, Some, codes, take, ℕ};
+ghost use Rattle.pdb_report.specs.Forms.{AddsFound, AddsFoundLine, AddsOther, LineText};
+ghost use Rattle.pdb_report.specs.AddressText.{AddressAnswers, answered_text};
+ghost use Rattle.pdb_report.specs.Adds.{Adds};
+ghost use Rattle.pdb_report.specs.JsonLine.{answered_object};
 
+use crate::json::{append_json_address, append_json_other, append_json_unreadable};
+use crate::texts::{append_address, append_unreadable};
 use pdb_addr2line::{Error, SharedFunctionFrames};
 use pdb_engine::{AddressStart, LineStart, LongStart};
-use pdb_report_texts::{
-    append_address, append_json_address, append_json_other, append_json_unreadable,
-    append_unreadable,
-};
 use std::alloc::{AllocError, Global};
 
 /// A form of reports on lines: what is written for an address, by what was found there, and for any
@@ -21,7 +19,7 @@ pub trait LineForm {
     type Start: LineStart;
 
     // what is written for a line, by the answers
-    ghost text: { AddressAnswers → List ℕ → List ℕ };
+    ghost text: { LineText };
 
     /// Appends what is written for a line that is an address, at which this was found.
     ///
@@ -32,17 +30,14 @@ pub trait LineForm {
         found: Result<Option<SharedFunctionFrames<'_>>, Error>,
         output: &mut Vec<u8>,
     ) -> Result<(), AllocError>
-        ensures { (answers : AddressAnswers) (line : List ℕ) → Some address ≡ address_of line
-            → FindsHeldFrames found.entry (answers address)
-            → OnOk result (output.new.items ≡ output.old.items ++ text answers line) };
+        ensures { AddsFoundLine text address found.entry result output.old output.new };
 
     /// Appends what is written for a line that isn't an address.
     ///
     /// # Errors
     /// `AllocError` when memory runs out; a part may be appended then.
     fn append_other(alloc: Global, line: &[u8], output: &mut Vec<u8>) -> Result<(), AllocError>
-        ensures { (answers : AddressAnswers) → None ≡ address_of line.now
-            → OnOk result (output.new.items ≡ output.old.items ++ text answers line.now) };
+        ensures { AddsOther text line.now result output.old output.new };
 
     // the start of a line decides what is written for it
     ghost is_short: { (answers : AddressAnswers) (line : List ℕ)
@@ -62,9 +57,7 @@ fn append_found_text(
     found: Result<Option<SharedFunctionFrames<'_>>, Error>,
     output: &mut Vec<u8>,
 ) -> Result<(), AllocError>
-    ensures { (answers : AddressAnswers) → FindsHeldFrames found.entry (answers address)
-        → OnOk result (output.new.items
-        ≡ output.old.items ++ text_at answers (Some address)) }
+    ensures { AddsFound answered_text address found.entry result output.old output.new }
 {
     match found {
         Ok(found) => {
@@ -86,9 +79,7 @@ fn append_found_json(
     found: Result<Option<SharedFunctionFrames<'_>>, Error>,
     output: &mut Vec<u8>,
 ) -> Result<(), AllocError>
-    ensures { (answers : AddressAnswers) → FindsHeldFrames found.entry (answers address)
-        → OnOk result (output.new.items
-        ≡ output.old.items ++ address_object address (json_answer (answers address))) }
+    ensures { AddsFound answered_object address found.entry result output.old output.new }
 {
     match found {
         Ok(found) => {
@@ -105,7 +96,7 @@ fn append_found_json(
 
 /// Appends the text for a line that isn't an address.
 fn append_no_address(output: &mut Vec<u8>) -> Result<(), AllocError>
-    ensures { OnOk result (output.new.items ≡ output.old.items ++ codes "not an address\n") }
+    ensures { Adds result output.old output.new (codes "not an address\n") }
 {
     output.extend_from_slice(b"not an address\n")
 }
@@ -113,8 +104,8 @@ fn append_no_address(output: &mut Vec<u8>) -> Result<(), AllocError>
 impl LineForm for TextLines {
     type Start = AddressStart;
 
-    ghost use Rattle.pdb_report_texts.specs.AddressText.{line_text};
-    ghost use Rattle.pdb_report_texts.proofs.ShortLines.{line_short};
+    ghost use Rattle.pdb_report.specs.AddressText.{line_text};
+    ghost use Rattle.pdb_report.specs.ShortLines.{line_short};
 
     ghost text = { λ answers line. line_text answers line };
 
@@ -136,8 +127,8 @@ impl LineForm for TextLines {
 impl LineForm for JsonLines {
     type Start = LongStart;
 
-    ghost use Rattle.pdb_report_texts.specs.JsonLine.{json_line};
-    ghost use Rattle.pdb_report_texts.proofs.ShortLines.{json_short};
+    ghost use Rattle.pdb_report.specs.JsonLine.{json_line};
+    ghost use Rattle.pdb_report.specs.ShortLines.{json_short};
 
     ghost text = { λ answers line. json_line answers line };
 

@@ -1,17 +1,17 @@
 //! Laws of the definitions: functions that do nothing, whose contracts are proved.
 
-ghost use Rattle.std.specs.Prelude.{◌≡◌, ◌<◌, ◌^◌, ℕ, List, None, Some, false};
-ghost use Rattle.pdb_container.specs.Alike.{OpenAlike, ReadAlike};
+ghost use Rattle.std.specs.Prelude.{◌≡◌, ℕ, List, None, false};
+ghost use Rattle.pdb_container.specs.Alike.{OpenAlike};
 ghost use Rattle.pdb_loading.specs.declared.order.ContributionOrder.{ContributionOrder as Order};
-ghost use Rattle.pdb_loading.specs.declared.order.ContributionOrder.TheVariants.{Any};
+ghost use Rattle.pdb_loading.specs.declared.order.ContributionOrder.TheVariants.{Any, InOrder};
 ghost use Rattle.pdb_loading.specs.FileRead.{IsRead};
-ghost use Rattle.pdb_loading.specs.Loading.{LoadingFault, load_fault, load_fault_with, loaded};
+ghost use Rattle.pdb_loading.specs.Loading.{LoadingFault, load_fault, loaded};
 ghost use Rattle.pdb_loading.specs.Loading.{loaded_with};
 ghost use Rattle.pdb_report.specs.Answer.{address_map, answer, answer_with, database};
 ghost use Rattle.pdb_report.specs.Answer.{database_with, files, files_with, map_with};
-ghost use Rattle.pdb_report.specs.AnyOrder.{is_for_order};
+ghost use Rattle.pdb_report.specs.AnyOrder.{HasFault, is_for_order};
 ghost use Rattle.pdb_report.specs.Isolation.{AreAlikeFor, IsIsolated};
-ghost use Rattle.pdb_report.specs.SameReports.{HaveSameReports};
+ghost use Rattle.pdb_report.specs.SameReports.{AllReadAlike, HaveSameReports, LoadAlike};
 ghost use Rattle.pdb_report.specs.SizeLaws.{SizesAddUp, SizesByFileAddUp};
 ghost use Rattle.pdb_symbols_modules.specs.Shared.{shared};
 ghost use Rattle.pdb_symbols_modules.specs.Streams.{Streams, streams};
@@ -23,7 +23,7 @@ use pdb_owners::laws as functions;
 /// read is part of no stream.
 pub fn files_that_were_read()
     ensures alike { (order : Order) (file bytes : List ℕ) → IsRead file bytes
-        → load_fault_with order (streams bytes) ≡ load_fault_with order (streams file) }
+        → LoadAlike order bytes file }
     ensures streams { (file bytes : List ℕ) → IsRead file bytes → streams bytes ≡ streams file }
     ensures reports { (file bytes : List ℕ) → IsRead file bytes
         → HaveSameReports (streams bytes) (streams file) }
@@ -53,14 +53,14 @@ pub fn file_reports_add_up()
 /// the same function, and the same line of a report.
 pub fn isolation()
     ensures loads { (order : Order) (a b : List ℕ) (m : ℕ) → AreAlikeFor m a b
-        → load_fault_with order (streams a) ≡ load_fault_with order (streams b) }
+        → LoadAlike order a b }
     ensures answers { (file : List ℕ) → IsIsolated file }
 {}
 
 /// Two files that open alike, and read alike at every number, have the same loading fault, or none,
 /// and the same answers, functions and reports, however their pages lie.
 pub fn page_layout()
-    ensures { (a b : List ℕ) → OpenAlike a b → ((n : ℕ) → n < 2 ^ 32 → ReadAlike a b n)
+    ensures { (a b : List ℕ) → OpenAlike a b → AllReadAlike a b
         → HaveSameReports (streams a) (streams b) }
 {}
 
@@ -75,8 +75,8 @@ pub fn any_order_adds_files()
     ensures places { (s : Streams) → load_fault s ≡ None → database_with Any s ≡ database s }
     ensures by_file { (s : Streams) → load_fault s ≡ None → files_with Any s ≡ files s }
     ensures map { (s : Streams) → load_fault s ≡ None → map_with Any s ≡ address_map s }
-    ensures faults { (s : Streams) (e : LoadingFault) → load_fault s ≡ Some e
-        → is_for_order e ≡ false → load_fault_with Any s ≡ Some e }
-    ensures none { (s : Streams) (e : LoadingFault) → load_fault_with Any s ≡ Some e
+    ensures faults { (s : Streams) (e : LoadingFault) → HasFault InOrder s e
+        → is_for_order e ≡ false → HasFault Any s e }
+    ensures none { (s : Streams) (e : LoadingFault) → HasFault Any s e
         → is_for_order e ≡ false }
 {}

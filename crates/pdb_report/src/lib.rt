@@ -1,8 +1,10 @@
 //! Reports by a program database: it is loaded, and the answer to each line of an input is written,
-//! or how many addresses of a range each function has.
+//! or how many addresses of a range each function has; the texts of answers, and why a run ends
+//! early.
 //!
-//! How much is read, cached and made ahead may change. A report's bytes, its faults, and what is
-//! out at each of them may not: scripts and the laws of whole files stand on them.
+//! How much is read, cached and made ahead may change, and how a text is put together, as long as a
+//! fault takes no memory. A report's bytes, its faults, and what is out at each of them may not:
+//! scripts and the laws of whole files stand on them.
 //!
 //! A [`Symbolizer`] is a file that was loaded, and a context of it is asked:
 //!
@@ -44,24 +46,30 @@
 #![tactic(auto)]
 
 mod counted;
+mod digits;
+mod fault;
 mod file_report;
 mod file_sizes;
 mod finish;
 mod forms;
+mod json;
 pub mod laws;
 mod lines;
 mod report;
 mod sizes;
+mod texts;
+mod told;
 
+pub use fault::RunFault;
 pub use file_report::{FileRun, run_file_frames, run_file_frames_in};
 pub use file_sizes::{FileSizes, run_file_sizes, run_file_sizes_by_file};
 pub use finish::finish_run;
 pub use forms::{JsonLines, LineForm, TextLines};
-pub use pdb_addr2line::{Context, Error};
-pub use pdb_databases::{FileFramesFault, FileOnDemand, FileSymbolizer, NotLoaded, Symbolizer};
+pub use pdb_addr2line::{
+    Context, Error, FileFramesFault, FileOnDemand, FileSymbolizer, NotLoaded, Symbolizer,
+};
 pub use pdb_engine::{ErrorOutput, Watched, parse_address};
 pub use pdb_loading::{ContributionOrder, LoadFault, read_file};
-pub use pdb_report_texts::RunFault;
 pub use report::{
     AtEnd, answer_lines, run_frames, run_frames_ending, run_frames_in, run_frames_with_order,
 };

@@ -1,8 +1,9 @@
 //! What is written for a line of the input, by a context.
 
-ghost use Rattle.std.specs.Prelude.{◌≡◌, ◌++◌, [], OnErr, OnOk};
+ghost use Rattle.std.specs.Prelude.{◌≡◌, [], OnErr};
 ghost use Rattle.pdb_addr2line.specs.Context.{lasting};
 ghost use Rattle.pdb_report.specs.Answer.{answer_of};
+ghost use Rattle.pdb_report.specs.Adds.{Adds};
 
 use crate::forms::LineForm;
 use pdb_addr2line::{Context, ModuleProvider};
@@ -17,7 +18,7 @@ use std::mem::replace;
 const LONG_TEXT: usize = 1_048_576;
 
 /// Appends what is written in a form for a line of the input.
-#[tactic(auto, using(pdb_databases::proofs::FileSteps::told_found))]
+#[tactic(auto, using(pdb_addr2line::proofs::FileSteps::told_found))]
 pub(crate) fn append_line<L: LineForm, P: ModuleProvider>(
     alloc: Global,
     context: &mut Context<'_, '_, P>,
@@ -25,8 +26,8 @@ pub(crate) fn append_line<L: LineForm, P: ModuleProvider>(
     output: &mut Vec<u8>,
 ) -> Result<(), AllocError>
     ensures same { lasting context.new ≡ lasting context.old }
-    ensures text { OnOk result (output.new.items
-        ≡ output.old.items ++ L.text (answer_of P.provided context.old) line.now) }
+    ensures text { Adds result output.old output.new
+        (L.text (answer_of P.provided context.old) line.now) }
 {
     match parse_address(line) {
         None => L::append_other(alloc, line, output),
@@ -43,7 +44,7 @@ pub(crate) fn append_text(
     room: &mut Vec<u8>,
     output: &mut Vec<u8>,
 ) -> Result<(), AllocError>
-    ensures text { OnOk result (output.new.items ≡ output.old.items ++ room.old.items) }
+    ensures text { Adds result output.old output.new room.old.items }
     ensures refused { OnErr result (output.new.items ≡ output.old.items) }
 {
     if room.len() < LONG_TEXT {

@@ -4,12 +4,12 @@ ghost use Rattle.std.specs.Prelude.{◌^◌};
 ghost use Rattle.pdb_report.specs.FrameReports.{ReportsFrames, ReportsFramesIn, frames_in};
 ghost use Rattle.pdb_report.specs.FrameReports.{frames_loaded, frames_with};
 
+use crate::fault::RunFault;
 use crate::forms::{LineForm, TextLines};
 use crate::lines::LineAnswers;
-use pdb_databases::Symbolizer;
+use pdb_addr2line::Symbolizer;
 use pdb_engine::{Watched, run};
 use pdb_loading::ContributionOrder;
-use pdb_report_texts::RunFault;
 use std::alloc::Global;
 use std::io::{Read, Write};
 use std::marker::PhantomData;
@@ -17,7 +17,7 @@ use std::mem::forget;
 
 /// The most bytes of input that a run reads: 2^30, some 100 million addresses. So a run ends on any
 /// reader, also on one that never does. docs/COSTS.md has what an address costs.
-const INPUT_LIMIT: u64 = 1 << 30;
+pub(crate) const INPUT_LIMIT: u64 = 1 << 30;
 
 /// What becomes of the memory that a run's context holds, once the run ends.
 #[derive(Clone, Copy, Debug, PartialEq, Eq)]

@@ -7,13 +7,12 @@ ghost use Rattle.pdb_report.specs.RangeReports.{by_file_in, by_file_with, sizes_
 ghost use Rattle.pdb_report.specs.RangeReports.{counted_loaded, counted_with};
 
 use crate::counted::{ContextRuns, Counted};
-use pdb_addr2line::Function;
+use crate::fault::RunFault;
+use pdb_addr2line::{FileContext, Function, Symbolizer};
 use pdb_addresses::AddressMap;
-use pdb_databases::{FileContext, Symbolizer};
 use pdb_engine::{Watched, write_all, write_fault};
 use pdb_loading::ContributionOrder;
 use pdb_owners::{CountedFile, count_runs};
-use pdb_report_texts::RunFault;
 use std::alloc::{AllocError, Global};
 use std::io::Write;
 
@@ -39,7 +38,7 @@ pub(crate) fn count_text<A: Counted>(
 ) -> Result<(String, Tally), AllocError>
     requires ordered { IsOrdered map.now }
     requires order { start ≤ end }
-    ensures { IfOk result (CountsPlaces A.is_report map.now (A.keyed context.entry).places start end
+    ensures { IfOk result (CountsPlaces A.kind map.now (A.keyed context.entry).places start end
         context.entry.lookups) }
 {
     let mut runs = ContextRuns::<A>::new(context);
@@ -64,7 +63,7 @@ fn count_loaded<A: Counted>(
 ) -> Result<(String, Tally), AllocError>
     requires { start ≤ end }
     ensures { IfOk result
-        (IsCounted (counted_loaded A.is_report A.places symbolizer.now) start end) }
+        (IsCounted (counted_loaded A.kind symbolizer.now) start end) }
 {
     match symbolizer.context(alloc) {
         Ok(context) => count_text::<A>(alloc, symbolizer.address_map(), context, start, end),
@@ -83,7 +82,7 @@ fn report_in_order<A: Counted, W: Write>(
     end: u32,
     writer: &mut Watched<W>,
 ) -> Result<Tally, RunFault>
-    ensures { CountsSizes (counted_loaded A.is_report A.places symbolizer.now) start end
+    ensures { CountsSizes (counted_loaded A.kind symbolizer.now) start end
         W.contents writer.old writer.new result }
 {
     if end < start {
@@ -110,7 +109,7 @@ fn run_report<A: Counted, W: Write>(
     end: u32,
     writer: &mut Watched<W>,
 ) -> Result<Tally, RunFault>
-    ensures { CountsSizes (counted_with A.is_report A.places order bytes.items) start end
+    ensures { CountsSizes (counted_with A.kind order bytes.items) start end
         W.contents writer.old writer.new result }
 {
     match Symbolizer::open_with_order(alloc, bytes, order) {

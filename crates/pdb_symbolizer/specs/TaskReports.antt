@@ -9,8 +9,8 @@ use Rattle.pdb_loading.specs.LoadFaults.{IsFileFault}
 use Rattle.pdb_loading.specs.Loading.{load_fault_with}
 use Rattle.pdb_report.specs.declared.file_report.FileRun.{FileRun}
 use Rattle.pdb_report.specs.FileReports.{FileOnDemand}
-use Rattle.pdb_report_texts.specs.declared.fault.RunFault.{RunFault}
-use Rattle.pdb_report_texts.specs.RunFaults.{OnCounted, OnLoad, OnReversed, OnWrite, UnlessLoad}
+use Rattle.pdb_report.specs.declared.fault.RunFault.{RunFault}
+use Rattle.pdb_report.specs.RunFaults.{OnCounted, OnLoad, OnReversed, OnWrite, UnlessLoad}
 use Rattle.pdb_symbolizer.specs.Tasks.{IsInOrder, IsReversed, OnRangeReport, OnReport, order_of}
 use Rattle.pdb_symbols_modules.specs.Streams.{streams}
 

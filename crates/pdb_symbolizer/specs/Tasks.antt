@@ -9,8 +9,8 @@ use Rattle.pdb_report.specs.Answer.{answer_with}
 use Rattle.pdb_report.specs.FrameReports.{LineText}
 use Rattle.pdb_report.specs.SizesByFile.{IsSizesByFileWith}
 use Rattle.pdb_report.specs.SizesReport.{IsSizesReportWith}
-use Rattle.pdb_report_texts.specs.AddressText.{line_text}
-use Rattle.pdb_report_texts.specs.JsonLine.{json_line}
+use Rattle.pdb_report.specs.AddressText.{line_text}
+use Rattle.pdb_report.specs.JsonLine.{json_line}
 use Rattle.pdb_symbols_modules.specs.Streams.{Streams}
 
 -- in which order section contributions have to stand, by whether they may in any

@@ -1,7 +1,8 @@
 -- Lines of a report, and their text where the names in them are undecorated.
 use Rattle.std.specs.Prelude.{◌≡◌, ◌⊎◌, ℕ, ◌+◌, ◌^◌, ◌==◌, ◌&&◌, ◌||◌, ◌≤◌, nat_le, nat_lt, not}
 use Rattle.std.specs.Prelude.{Bool, true, false, if◌then◌else◌, List, [], ◌∷◌, ◌++◌, length, take}
-use Rattle.std.specs.Prelude.{codes, drop, slice_index}
+use Rattle.std.specs.Global.{Vec}
+use Rattle.std.specs.Prelude.{codes, drop, slice_index, OnOk, Result}
 use Rattle.std.specs.List.{All, AllPass, flat_map, prefix_len, starts_with}
 use Rattle.json_strings.specs.Json.{escaped}
 use Rattle.pdb_symbolizer.specs.declared.undecorated.lines.ReportKind.{ReportKind}
@@ -107,3 +108,29 @@ pub record Undecorates (kind : ReportKind) (text rest named : List ℕ) : Type 0
   pub each : All (IsLineOf kind) lines
   pub stored : text ≡ stored_lines lines ++ rest
   pub written : named ≡ named_lines lines
+
+-- The lines that end in a text are written with other texts for their names, and nothing after them
+-- ends a line.
+abbrev pub WritesLines : ReportKind → List ℕ → List ℕ → List ℕ → Type 0
+WritesLines kind text rest named = IsUnbroken kind rest × Undecorates kind text rest named
+
+-- ---- what a call adds to an output
+
+-- Where a call returns well, an output has what it had before, and then some text of which a fact
+-- holds.
+abbrev pub AddsSome : {A E : Type 0} → Result A E → Vec ℕ → Vec ℕ → (List ℕ → Type 0) → Type 0
+AddsSome result old new is_text =
+    OnOk result ((text : List ℕ) × is_text text × (new.items ≡ old.items ++ text))
+
+-- The same of a line with another text for its name, and the byte that ends it.
+abbrev pub AddsLine : {A E : Type 0} → ReportKind → List ℕ → ℕ → Result A E → Vec ℕ → Vec ℕ
+    → Type 0
+AddsLine kind line end result old new =
+    OnOk result ((text : List ℕ) × IsNamed kind line text
+    × (new.items ≡ old.items ++ (text ++ end ∷ [])))
+
+-- An output has what it had before, and then the lines that end in a text, with other texts for
+-- their names; nothing after them ends a line.
+abbrev pub AddsLines : ReportKind → List ℕ → List ℕ → Vec ℕ → Vec ℕ → Type 0
+AddsLines kind text rest old new = IsUnbroken kind rest × ((named : List ℕ)
+    × Undecorates kind text rest named × (new.items ≡ old.items ++ named))

@@ -63,7 +63,7 @@ fn main(rt: HostRuntime) -> ExitCode {
 }
 
 /// The file that a task is about.
-fn file_of(task: &Task) -> &str {
+fn file_path(task: &Task) -> &str {
     match task {
         Task::Frames { file, .. } => file.as_str(),
         Task::Sizes { file, .. } => file.as_str(),
@@ -106,6 +106,19 @@ fn undecorated_report(task: &Task) -> Option<ReportKind> {
     }
 }
 
+/// Opens a file without bytes, if it can be. Where standard input is closed the first file that is
+/// opened takes its place, and would be read for it.
+///
+/// # Errors
+/// `OutOfMemory`.
+fn empty_file<S: Files>(rt: &S) -> io::Result<Option<S::File>> {
+    match fs::open(rt, "/dev/null") {
+        Ok(file) => Ok(Some(file)),
+        Err(error) if error.kind() == ErrorKind::OutOfMemory => Err(error),
+        Err(_) => Ok(None),
+    }
+}
+
 /// Writes the report that is asked for to an output, through a writer that undecorates its names if
 /// that is asked for.
 ///
@@ -120,6 +133,7 @@ fn write_report<S: Files + AllocGlobal, R: Read, W: Write + Drop>(
 where
     S::File: FileExt,
 {
+    let _first = empty_file(rt)?;
     match undecorated_report(task) {
         None => {
             let mut writer = Watched::new(output);
@@ -146,7 +160,7 @@ fn report_by_file<S: Files + AllocGlobal, R: Read, W: Write>(
 where
     S::File: FileExt,
 {
-    let mut file = fs::open(rt, file_of(task))?;
+    let mut file = fs::open(rt, file_path(task))?;
     let Some(size) = size_of(&file) else {
         let bytes = read_file(rt.alloc(), &mut file)?;
         return Ok(run_task(rt.alloc(), task, bytes, reader, writer));

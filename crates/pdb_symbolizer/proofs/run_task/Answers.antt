@@ -1,7 +1,7 @@
 use Rattle.std.proofs.Common.{◌≡◌, ◌^◌, ◌∙◌, ap, rules, sym}
 use Rattle.pdb_engine.specs.Watched.{inner_of, Writes, WritesFront}
-use Rattle.pdb_report_texts.specs.AddressText.{line_text}
-use Rattle.pdb_report_texts.specs.JsonLine.{json_line}
+use Rattle.pdb_report.specs.AddressText.{line_text}
+use Rattle.pdb_report.specs.JsonLine.{json_line}
 use Rattle.pdb_symbolizer.specs.Tasks.{OnReport, line_if, order_of}
 use Rattle.pdb_symbols_modules.specs.Streams.{streams}
 use Rattle.pdb_symbolizer.proofs.FrameReports.{asked_ok, asked_part}

@@ -1,10 +1,9 @@
 //! The lines of a report, and the names in them.
 
-ghost use Rattle.std.specs.Prelude.{◌≡◌, ◌++◌, ◌∷◌, [], ◌≤◌, ℕ, List, IfOk, MatchOption, OnOk};
-ghost use Rattle.std.specs.Prelude.{false, length};
+ghost use Rattle.std.specs.Prelude.{◌≡◌, ◌≤◌, IfOk, MatchOption, length};
 ghost use Rattle.std.specs.List.{prefix_len};
-ghost use Rattle.pdb_symbolizer.specs.UndecoratedLines.{IsNamed, IsNameText, IsTextIn, IsUnbroken};
-ghost use Rattle.pdb_symbolizer.specs.UndecoratedLines.{SplitsLine, Undecorates};
+ghost use Rattle.pdb_symbolizer.specs.UndecoratedLines.{AddsLine, AddsLines, AddsSome, IsNameText};
+ghost use Rattle.pdb_symbolizer.specs.UndecoratedLines.{IsTextIn, IsUnbroken, SplitsLine};
 ghost use Rattle.pdb_symbolizer.specs.UndecoratedLines.{after_blank as after_blank_of, is_in_name};
 ghost use Rattle.pdb_symbolizer.specs.UndecoratedLines.{is_decorated as is_decorated_name, is_in_line};
 ghost use Rattle.pdb_symbolizer.specs.UndecoratedLines.{is_in_word, name_start as name_start_of};
@@ -92,7 +91,7 @@ fn string_start(line: &[u8]) -> usize
 }
 
 /// Whether a name is decorated, by how it begins: `??` stands for what isn't known.
-fn is_decorated(name: &[u8]) -> bool
+fn begins_as_decorated(name: &[u8]) -> bool
     ensures { result ≡ is_decorated_name name.now }
 {
     match name {
@@ -103,10 +102,9 @@ fn is_decorated(name: &[u8]) -> bool
 
 /// Appends the text of a name: the name itself, if it isn't decorated.
 fn append_name(alloc: Global, name: &[u8], output: &mut Vec<u8>) -> Result<(), AllocError>
-    ensures { OnOk result ((text : List ℕ) × IsNameText name.now text
-        × (output.new.items ≡ output.old.items ++ text)) }
+    ensures { AddsSome result output.old output.new (IsNameText name.now) }
 {
-    if !is_decorated(name) {
+    if !begins_as_decorated(name) {
         return output.extend_from_slice(name);
     }
     match demangle(alloc, name, SHORT_TEXT)? {
@@ -118,10 +116,9 @@ fn append_name(alloc: Global, name: &[u8], output: &mut Vec<u8>) -> Result<(), A
 /// Appends the text of a name in a string of JSON: the name as it stands, if something in it is
 /// escaped.
 fn append_escaped_name(alloc: Global, name: &[u8], output: &mut Vec<u8>) -> Result<(), AllocError>
-    ensures { OnOk result ((text : List ℕ) × IsTextIn ReportKind.Json name.now text
-        × (output.new.items ≡ output.old.items ++ text)) }
+    ensures { AddsSome result output.old output.new (IsTextIn ReportKind.Json name.now) }
 {
-    if !is_decorated(name) || name.contains(&b'\\') {
+    if !begins_as_decorated(name) || name.contains(&b'\\') {
         return output.extend_from_slice(name);
     }
     let mut plain = Vec::new(alloc);
@@ -136,8 +133,7 @@ fn append_name_in(
     name: &[u8],
     output: &mut Vec<u8>,
 ) -> Result<(), AllocError>
-    ensures { OnOk result ((text : List ℕ) × IsTextIn kind name.now text
-        × (output.new.items ≡ output.old.items ++ text)) }
+    ensures { AddsSome result output.old output.new (IsTextIn kind name.now) }
 {
     match kind {
         ReportKind::Json => append_escaped_name(alloc, name, output),
@@ -146,15 +142,14 @@ fn append_name_in(
 }
 
 /// Appends a line with the text of its name, and the byte that ends it.
-fn append_line(
+fn append_undecorated_line(
     alloc: Global,
     kind: ReportKind,
     line: &[u8],
     end: u8,
     output: &mut Vec<u8>,
 ) -> Result<(), AllocError>
-    ensures { OnOk result ((text : List ℕ) × IsNamed kind line.now text
-        × (output.new.items ≡ output.old.items ++ (text ++ end ∷ []))) }
+    ensures { AddsLine kind line.now end result output.old output.new }
 {
     let start = name_start(kind, line);
     let name_end = start + name_length(kind, &line[start..]);
@@ -210,13 +205,12 @@ pub(crate) fn append_lines<'t>(
     text: &'t [u8],
     output: &mut Vec<u8>,
 ) -> Result<&'t [u8], AllocError>
-    ensures { IfOk result (λ rest. IsUnbroken kind rest.now × ((named : List ℕ)
-        × Undecorates kind text.now rest.now named
-        × (output.new.items ≡ output.old.items ++ named))) }
+    ensures { IfOk result
+        (λ rest. AddsLines kind text.now rest.now output.old output.new) }
 {
     let mut rest = text;
     while let Some((line, end, after)) = split_line(kind, rest) {
-        append_line(alloc, kind, line, end, output)?;
+        append_undecorated_line(alloc, kind, line, end, output)?;
         rest = after;
     }
     Ok(rest)

@@ -1,7 +1,7 @@
 //! A writer that undecorates names.
 
 ghost use Rattle.std.specs.Prelude.{◌≡◌, ◌++◌, [], IfOk, OnErr, OnOk};
-ghost use Rattle.pdb_symbolizer.specs.UndecoratedLines.{IsUnbroken, Undecorates};
+ghost use Rattle.pdb_symbolizer.specs.UndecoratedLines.{WritesLines};
 
 use crate::undecorated::lines::{ReportKind, append_lines};
 use pdb_engine::ErrorOutput;
@@ -22,8 +22,8 @@ fn ended_lines(
     pending: &[u8],
     bytes: &[u8],
 ) -> Result<EndedLines, AllocError>
-    ensures { IfOk result (λ ended. IsUnbroken kind ended.pending.items
-        × Undecorates kind (pending.now ++ bytes.now) ended.pending.items ended.named.items) }
+    ensures { IfOk result (λ ended.
+        WritesLines kind (pending.now ++ bytes.now) ended.pending.items ended.named.items) }
 {
     let mut text = Vec::new(alloc);
     text.extend_from_slice(pending)?;

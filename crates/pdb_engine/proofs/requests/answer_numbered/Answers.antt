@@ -7,7 +7,7 @@ returns-in-Some-clause-lines g c = lines_set _ _ _ _ c.in-Some.request.now (sear
 
 pub returns-in-Some-clause-last : goal.returns-in-Some-clause-last
 returns-in-Some-clause-last g c =
-    last_more c.answer_request.result _ _ _ _ c.in-Some.request.now c.answer_request.new.request (search rules) (search rules) c.answer_request.ensures.room (λ h. let f = c.answer_request.ensures.full h in (f.2, f.3)) c.answer_request.ensures.refused
+    last_more c.answer_request.result _ _ _ _ c.in-Some.request.now c.answer_request.new.request (search rules) (search rules) c.answer_request.ensures.room c.answer_request.ensures.makes_none c.answer_request.ensures.refused
 
 pub returns-in-Some-clause-answered : goal.returns-in-Some-clause-answered
 returns-in-Some-clause-answered g c =

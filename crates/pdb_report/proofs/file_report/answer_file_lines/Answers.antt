@@ -1,7 +1,7 @@
 use Rattle.std.proofs.Common.{◌^◌, Result, Err, sym, subst}
-use Rattle.pdb_databases.specs.FileAnswers.{IsKnown, file_of}
+use Rattle.pdb_addr2line.specs.FileAnswers.{IsKnown, file_of}
 use Rattle.pdb_report.specs.FrameReports.{ReportsIfKnown, frames_loaded}
-use Rattle.pdb_report_texts.specs.declared.fault.RunFault.{RunFault}
+use Rattle.pdb_report.specs.declared.fault.RunFault.{RunFault}
 use Rattle.pdb_report.proofs.FileFrameSteps.{known_early, known_short, known_well}
 use Rattle.pdb_report.proofs.file_report.answer_file_lines.Goals.{in-Ok, in-Err-OutOfMemory, in-Err}
 use Rattle.pdb_report.proofs.file_report.answer_file_lines.Goals as goal

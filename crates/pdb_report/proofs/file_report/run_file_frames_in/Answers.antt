@@ -8,7 +8,7 @@ use Rattle.pdb_report.specs.Answer.{answer_with}
 use Rattle.pdb_report.specs.FrameReports.{ReportsIfKnown, frames_of}
 use Rattle.pdb_report.proofs.FileFrameSteps.{file_refused}
 use Rattle.pdb_report.proofs.IsolationLaw.{exchanged_out, isolated}
-use Rattle.pdb_report_texts.specs.declared.fault.RunFault.{RunFault}
+use Rattle.pdb_report.specs.declared.fault.RunFault.{RunFault}
 use Rattle.pdb_symbols_modules.specs.Streams.{streams}
 use Rattle.pdb_report.proofs.file_report.run_file_frames_in.Goals as goal
 

@@ -1,7 +1,7 @@
 use Rattle.std.proofs.Common.{Err, sym, subst}
 use Rattle.pdb_report.specs.Answer.{answer_of, answered_in}
 use Rattle.pdb_report.specs.FrameReports.{ReportsFramesIn, frames_loaded}
-use Rattle.pdb_report_texts.specs.declared.fault.RunFault.{RunFault}
+use Rattle.pdb_report.specs.declared.fault.RunFault.{RunFault}
 use Rattle.pdb_report.proofs.FrameSteps.{ended_early, ended_well, lacking}
 use Rattle.pdb_report.proofs.report.answer_lines_in.Goals as goal
 

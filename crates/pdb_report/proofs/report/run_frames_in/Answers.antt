@@ -1,6 +1,6 @@
 use Rattle.std.proofs.Common.{◌^◌, Err, sym, subst}
 use Rattle.pdb_report.specs.FrameReports.{ReportsFramesIn, frames_with}
-use Rattle.pdb_report_texts.specs.declared.fault.RunFault.{RunFault}
+use Rattle.pdb_report.specs.declared.fault.RunFault.{RunFault}
 use Rattle.pdb_report.proofs.FrameSteps.{refused}
 use Rattle.pdb_report.proofs.report.run_frames_in.Goals as goal
 

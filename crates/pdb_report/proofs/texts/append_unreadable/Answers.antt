@@ -1,0 +1,13 @@
+use Rattle.std.proofs.Common.{◌++◌, codes, ap, ◌∙◌}
+use Rattle.pdb_report.specs.AddressText.{answer_text, eight_digits}
+use Rattle.pdb_report.proofs.TextSteps.{address_more}
+use Rattle.pdb_report.proofs.texts.append_unreadable.Goals as goal
+
+pub returns : goal.returns
+unfolding answer_text
+returns c e =
+    let more = codes "  unreadable\n" in
+    c.in_ok-append.ensures
+    ∙ ap (λ bs. bs ++ more) c.in_ok-append_address_line.ensures
+    ∙ address_more (c.args.output.now.items)
+    (codes "0x" ++ eight_digits c.args.address) more
