@@ -2,8 +2,9 @@
 
 use crate::choices::{Choices, FunctionName};
 use crate::given_words::is_addr2line;
-use pdb_llvm_requests::{LineForm, are_hexadecimal, parse_number};
-use pdb_llvm_texts::{Asked, ReportOptions, Style, TextOptions};
+use pdb_llvm_protocol::{
+    Asked, LineForm, ReportOptions, Style, TextOptions, are_hexadecimal, parse_number,
+};
 use std::alloc::{AllocError, Global};
 
 /// What the arguments ask for.

@@ -1,7 +1,6 @@
 //! What the words of the arguments choose: of options that exclude each other the last one counts.
 
-use pdb_llvm_requests::{Flag, OptionWord, Setting, read_option};
-use pdb_llvm_texts::Style;
+use pdb_llvm_protocol::{Flag, OptionWord, Setting, Style, read_option};
 use std::alloc::{AllocError, Global};
 
 /// The name that a function is reported by.

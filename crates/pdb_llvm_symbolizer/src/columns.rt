@@ -1,9 +1,8 @@
 //! The columns of lines.
 
 use pdb_addr2line::pdb::{Error, FallibleIterator, LineProgram, Module, PdbInternalSectionOffset};
-use pdb_addr2line::{KeptModules, ModuleProvider};
-use pdb_databases::Held;
-use pdb_llvm_texts::{column_for, has_columns};
+use pdb_addr2line::{Held, KeptModules, ModuleProvider};
+use pdb_llvm_protocol::{column_for, has_columns};
 use std::alloc::{AllocError, Global};
 use std::collections::BTreeMap;
 

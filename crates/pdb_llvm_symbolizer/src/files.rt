@@ -4,12 +4,10 @@ use crate::arguments::Arguments;
 use crate::loaded::{AskedAddress, FileAnswers, load};
 use crate::open_error::OpenError;
 use bumpalo::Bump;
-use pdb_databases::LoadFault;
-use pdb_llvm_requests::{
-    Command, LineRequest, RequestFault, RequestedFile, before_nul, read_request,
-};
-use pdb_llvm_texts::{
-    ReportedFrame, Style, append_error, append_frames, append_no_data, append_no_locals,
+use pdb_addr2line::LoadFault;
+use pdb_llvm_protocol::{
+    Command, LineRequest, ReportedFrame, RequestFault, RequestedFile, Style, append_error,
+    append_frames, append_no_data, append_no_locals, before_nul, read_request,
 };
 use std::alloc::{AllocError, Global};
 use std::collections::BTreeMap;
@@ -34,12 +32,16 @@ pub struct AskedFiles<'a, F: Drop> {
     numbers: BTreeMap<Vec<u8>, usize>,
 }
 
-/// Reports an error of a file on standard error, but where answers are JSON and have it. Where that
-/// fails, the answers go on.
+/// Reports an error of a file on standard error; a write that fails is ignored.
+fn tell_error(rt: &impl Eprint, arguments: &Arguments, subject: &str, reason: &str) {
+    let program = arguments.program.as_str();
+    let _ = eprintln!(rt; "{program}: error: '{subject}': {reason}");
+}
+
+/// Reports an error of a file, but where answers are JSON and have it.
 fn tell(rt: &impl Eprint, arguments: &Arguments, subject: &str, reason: &str) {
     if arguments.texts.style != Style::Json {
-        let program = arguments.program.as_str();
-        let _ = eprintln!(rt; "{program}: error: '{subject}': {reason}");
+        tell_error(rt, arguments, subject, reason);
     }
 }
 
@@ -231,6 +233,20 @@ impl<'a, F: FileExt + Drop> AskedFiles<'a, F> {
         Ok(false)
     }
 
+    /// Reports the file that couldn't be read after it was loaded, if there is one. Returns whether
+    /// there is.
+    pub fn tell_failed_read(&self, rt: &impl Eprint) -> bool {
+        for file in &self.files {
+            if let Ok(loaded) = &file.loaded {
+                if let Some(reason) = loaded.failed_read() {
+                    tell_error(rt, self.arguments, file.text.as_str(), reason);
+                    return true;
+                }
+            }
+        }
+        false
+    }
+
     /// Appends the answer to a request for an object that is named by its build ID.
     fn append_build_id(
         &self,
@@ -272,7 +288,7 @@ impl<'a, F: FileExt + Drop> AskedFiles<'a, F> {
     /// Appends the answer to a line, whose file is loaded if need be.
     ///
     /// # Errors
-    /// Where memory ran out.
+    /// Where memory ran out, or reading a file failed after it was loaded.
     pub fn append_line(
         &mut self,
         rt: &(impl Files<File = F> + Eprint + AllocGlobal),

@@ -4,9 +4,8 @@ ghost use Rattle.std.specs.Prelude.{◌≡◌};
 ghost use Rattle.pdb_addr2line.specs.Context.{lasting};
 
 use crate::loaded::frames_or_none;
-use pdb_addr2line::{Function, SharedFunctionFrames};
-use pdb_databases::FileContext;
-use pdb_llvm_texts::{Asked, ReportOptions, ReportedFrame, report_frame};
+use pdb_addr2line::{FileContext, Function, SharedFunctionFrames};
+use pdb_llvm_protocol::{Asked, ReportOptions, ReportedFrame, report_frame};
 use std::alloc::{AllocError, Global};
 
 /// The frames at the first row of a function.

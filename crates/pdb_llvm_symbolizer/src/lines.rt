@@ -5,7 +5,7 @@ ghost use Rattle.std.specs.Prelude.{[]};
 use crate::arguments::Arguments;
 use crate::files::AskedFiles;
 use pdb_engine::{Answers, InputFault, LongStart, Watched, write_all, write_fault};
-use pdb_llvm_texts::{Style, TextOptions};
+use pdb_llvm_protocol::{Style, TextOptions};
 use std::alloc::{AllocError, Global};
 use std::io::Write;
 use std::os::unix::fs::FileExt;

@@ -9,16 +9,16 @@ use crate::columns::Columns;
 use crate::database::{Database, open};
 use crate::first_row::{FirstRow, with_first_row};
 use crate::names::FunctionNames;
-use crate::open_error::OpenError;
+use crate::open_error::{OpenError, reason};
 use crate::ordered_map::OrderedMap;
 use bumpalo::Bump;
-use pdb_addr2line::{Error, Function, SharedFunctionFrames};
-use pdb_databases::{FileContext, FileSymbolizer, TRIES};
-use pdb_llvm_requests::{Command, rva_of};
-use pdb_llvm_texts::{
-    OwnFrame, ReportedFrame, append_frames, append_no_data, append_no_locals, report_frames,
+use pdb_addr2line::{Error, FileContext, FileSymbolizer, Function, SharedFunctionFrames, TRIES};
+use pdb_llvm_protocol::{
+    Command, OwnFrame, ReportedFrame, append_frames, append_no_data, append_no_locals,
+    report_frames, rva_of,
 };
 use std::alloc::{AllocError, Global};
+use std::io::{self, ErrorKind};
 use std::os::unix::fs::FileExt;
 use std::rt::Files;
 
@@ -28,6 +28,8 @@ pub struct FileAnswers<'a, F: Drop> {
     image_base: u64,
     file: FileSymbolizer<'a, F>,
     texts: AddressTexts<'a>,
+    /// How reading the file failed after it was loaded, if it did.
+    failed: Option<ErrorKind>,
 }
 
 /// What names the functions of a file, and the columns of its lines.
@@ -105,6 +107,7 @@ pub fn load<'a, F: FileExt + Drop>(
             names: FunctionNames::new(held, map),
             columns: Columns::new(rt.alloc(), held),
         },
+        failed: None,
     })
 }
 
@@ -217,7 +220,33 @@ impl<'a, F: FileExt + Drop> FileAnswers<'a, F> {
         known?.append(alloc, arguments, (asked, rva), output)
     }
 
+    /// Reads what was asked for and is missing, unless reading the file failed before; returns
+    /// whether there is more now.
+    fn read_missing(&mut self, alloc: Global) -> bool {
+        if self.failed.is_some() {
+            return false;
+        }
+        match self.file.go_on(alloc) {
+            Ok(more) => more,
+            Err(kind) => {
+                self.failed = Some(kind);
+                false
+            }
+        }
+    }
+
+    /// Why reading the file failed after it was loaded; `None` where it didn't, or memory ran out.
+    pub fn failed_read(&self) -> Option<&'static str> {
+        match self.failed {
+            Some(kind) => reason(&io::Error::from(kind)),
+            None => None,
+        }
+    }
+
     /// Appends the answer for an address that has an RVA. What it lacks is read first.
+    ///
+    /// # Errors
+    /// Where memory ran out, or reading the file failed.
     fn append_rva(
         &mut self,
         alloc: Global,
@@ -232,10 +261,8 @@ impl<'a, F: FileExt + Drop> FileAnswers<'a, F> {
                 Ok(()) => return Ok(()),
                 Err(_) => output.truncate(before),
             }
-            // What keeps the file from being read is reported as out of memory.
-            match self.file.go_on(alloc) {
-                Ok(true) => {}
-                Ok(false) | Err(_) => return Err(AllocError),
+            if !self.read_missing(alloc) {
+                return Err(AllocError);
             }
         }
         Err(AllocError)
@@ -265,6 +292,10 @@ impl<'a, F: FileExt + Drop> FileAnswers<'a, F> {
     }
 
     /// Appends the answer to a request.
+    ///
+    /// # Errors
+    /// Where memory ran out, or reading the file failed, which [`failed_read`](Self::failed_read)
+    /// tells then.
     pub fn append_asked(
         &mut self,
         alloc: Global,

@@ -35,7 +35,8 @@ use given_words::{GivenWords, given_words};
 use help::{HELP, VERSION};
 use lines::{RequestAnswers, write_answers, write_made};
 use pdb_engine::{InputFault, Watched, run};
-use std::io::{Read, Write};
+use std::fs;
+use std::io::{self, ErrorKind, Read, Write};
 use std::mem::forget;
 use std::os::unix::fs::FileExt;
 use std::process::ExitCode;
@@ -63,12 +64,26 @@ fn main(rt: HostRuntime) -> Result<ExitCode> {
         }
     };
     push_environment_stores(&rt, &mut arguments.stores)?;
+    let _first = empty_file(&rt)?;
     let mut reader = Watched::new(rt.stdin());
     let mut writer = Watched::new(rt.stdout());
     match answer_requests(&rt, &arguments, &mut reader, &mut writer) {
         Ok(true) => Ok(ExitCode::SUCCESS),
         Ok(false) => Ok(ExitCode::from(1)),
         Err(fault) => bail!("{}", reason(&fault)),
+    }
+}
+
+/// Opens a file without bytes, if it can be. Where standard input is closed the first file that is
+/// opened takes its place, and would be read for it.
+///
+/// # Errors
+/// `OutOfMemory`.
+fn empty_file<S: Files>(rt: &S) -> io::Result<Option<S::File>> {
+    match fs::open(rt, "/dev/null") {
+        Ok(file) => Ok(Some(file)),
+        Err(error) if error.kind() == ErrorKind::OutOfMemory => Err(error),
+        Err(_) => Ok(None),
     }
 }
 
@@ -110,7 +125,8 @@ fn reason(fault: &InputFault) -> &'static str {
 }
 
 /// Answers the addresses among the arguments, or those of the reader's lines. Returns whether the
-/// file of `--obj` is loaded, if it is given. What the files hold is left to the process.
+/// file of `--obj` is loaded, if it is given, and all files could be read; else that is reported.
+/// What the files hold is left to the process.
 fn answer_requests<S: Files<File = F> + Eprint + AllocGlobal, F: FileExt + Drop, R: Read, W: Write>(
     rt: &S,
     arguments: &Arguments,
@@ -130,8 +146,8 @@ fn answer_requests<S: Files<File = F> + Eprint + AllocGlobal, F: FileExt + Drop,
     outcome
 }
 
-/// Loads the file of `--obj`, and answers the addresses. Where standard input can't be read, as
-/// where it is closed, it has ended.
+/// Loads the file of `--obj`, and answers the addresses; returns whether all files that were loaded
+/// could be read. Where standard input can't be read, as where it is closed, it has ended.
 fn answer_by<S: Files<File = F> + Eprint + AllocGlobal, F: FileExt + Drop, R: Read, W: Write>(
     answers: &mut RequestAnswers<'_, S, F>,
     arguments: &Arguments,
@@ -148,6 +164,8 @@ fn answer_by<S: Files<File = F> + Eprint + AllocGlobal, F: FileExt + Drop, R: Re
     };
     match outcome {
         Ok(()) | Err(InputFault::Read(_)) => Ok(true),
+        // A file that can't be read ends a run as lack of memory does.
+        Err(InputFault::OutOfMemory) if answers.files.tell_failed_read(answers.system) => Ok(false),
         Err(fault) => Err(fault),
     }
 }

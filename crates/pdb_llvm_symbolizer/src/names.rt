@@ -6,9 +6,8 @@ ghost use Rattle.pdb_addr2line.specs.Context.{lasting};
 use crate::ordered_map::OrderedMap;
 use crate::publics::Publics;
 use crate::undecorated::undecorated;
-use pdb_addr2line::Function;
 use pdb_addr2line::pdb::{MachineType, PdbInternalSectionOffset};
-use pdb_databases::{FileContext, Held};
+use pdb_addr2line::{FileContext, Function, Held};
 use pdb_owners::FunctionKey;
 use std::alloc::{AllocError, Global};
 

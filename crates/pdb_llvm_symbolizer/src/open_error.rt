@@ -1,6 +1,6 @@
 //! Why a file can't be loaded.
 
-use pdb_databases::{FileFault, LoadFault};
+use pdb_addr2line::{FileFault, LoadFault};
 use pdb_image::ImageError;
 use std::alloc::{AllocError, AllocFailed};
 use std::io::{self, ErrorKind};

@@ -1,4 +1,4 @@
-use Rattle.pdb_databases.proofs.FileSteps.{context_asked}
+use Rattle.pdb_addr2line.proofs.FileSteps.{context_asked}
 use Rattle.pdb_llvm_symbolizer.proofs.loaded.FileAnswers.append_at.Goals as goal
 
 -- the context that was asked is still one of the file

@@ -1,0 +1,12 @@
+pub mod AnswerTexts
+pub mod Columns
+pub mod ImageAddress
+pub mod Json
+pub mod ModuleNames
+pub mod Number
+pub mod OptionWords
+pub mod Plain
+pub mod Reported
+pub mod ReportedFrames
+pub mod Request
+pub mod Words

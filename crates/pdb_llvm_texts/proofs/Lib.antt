@@ -1,5 +1,0 @@
-pub mod ColumnSteps
-pub mod Lists
-pub mod Names
-pub mod Parts
-pub mod RowOfLine
