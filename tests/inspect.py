@@ -22,7 +22,8 @@ lie, with NAME in it for a program's name; if left out, the proved ones are run.
 
 - a pipe gives what its file gives;
 - long work shows how far it is where standard error is a terminal, and nowhere else;
-- each fault is told by its name, on standard error.
+- each fault is told by its name, on standard error;
+- the cases of tests/inspect/cases.txt answer as they are recorded.
 
 What llvm-pdbutil 14 says of the stored databases is recorded in tests/inspect, one file for each
 that it can read, and --record writes that anew. Of other databases its checks are left out where it isn't installed,
@@ -35,6 +36,7 @@ import io
 import json
 import os
 import re
+import shlex
 import shutil
 import subprocess
 import sys
@@ -346,15 +348,22 @@ def check_file(inspect, symbolizer, file):
     check_sources(inspect, file)
 
 
+def piece_of(terminal):
+    """What was written to a terminal next; nothing at the end."""
+    try:
+        return os.read(terminal, 1 << 16)
+    except OSError:
+        return b""
+
+
 def on_terminal(words):
     """What a program writes to standard error where that is a terminal; and its output."""
     shown, terminal = os.openpty()
     done = subprocess.run(words, stdout=subprocess.PIPE, stderr=terminal)
     os.close(terminal)
-    try:
-        text = os.read(shown, 1 << 16)
-    except OSError:
-        text = b""
+    text = b""
+    while piece := piece_of(shown):
+        text += piece
     os.close(shown)
     return text, done.stdout
 
@@ -402,6 +411,19 @@ def check_faults(inspect):
     check("fault of a full output", done.returncode == 1 and b"cannot write" in done.stderr, done.stderr)
 
 
+def check_cases(inspect):
+    folder = os.path.dirname(STORED[0])
+    with open(f"{ROOT}/tests/inspect/cases.txt", encoding="utf-8") as text:
+        cases = re.findall(r"(?m)^\$ (.*)\n((?:(?:[>!]|status) ?.*\n)*)", text.read())
+    for words, wanted in cases:
+        done = subprocess.run([inspect, *shlex.split(words)], cwd=folder, capture_output=True)
+        came = "".join(f"> {it}\n" for it in done.stdout.decode().splitlines())
+        came += "".join(f"! {it}\n" for it in done.stderr.decode().splitlines())
+        came += f"status {done.returncode}\n" * (done.returncode != 0)
+        check(words, came == wanted, f"{came} and {wanted}")
+    check("cases", cases, "none is recorded")
+
+
 def attempt(what, checks, *words):
     """Makes checks. An output that has another form than theirs is a failure."""
     try:
@@ -429,6 +451,7 @@ def main():
     attempt("progress", check_progress, inspect)
     attempt("a pipe", check_pipe, inspect, files[0])
     attempt("faults", check_faults, inspect)
+    attempt("cases", check_cases, inspect)
     end(*counts)
 
 

@@ -1,8 +1,7 @@
 //! The program's arguments.
 
-use crate::fault::Fault;
 use clap::error::ErrorKind;
-use clap::{Arg, ArgAction, ArgMatches, Command};
+use clap::{Arg, ArgAction, ArgMatches, Command, Error};
 use pdb_listings::Format;
 use std::alloc::{AllocError, Global};
 
@@ -76,8 +75,8 @@ Example:
   pdb_inspect sizes program.pdb --by file --top 10";
 
 const DIFF_TEXT: &str = "\
-Each line is OLD NEW CHANGE NAME, in bytes, the largest change first. Lines for people end with the
-totals.
+Each line is OLD NEW CHANGE NAME, in bytes, the largest change first. Lines for people end with what
+--top leaves out, and with the totals.
 
 Example:
   pdb_inspect diff old.pdb new.pdb --by module";
@@ -104,44 +103,24 @@ pub enum By {
 }
 
 /// What is asked for.
+#[derive(Clone, Copy)]
 pub enum Task {
     /// The functions of a file.
-    Functions(String),
+    Functions,
     /// The lines of a file.
-    Lines(String),
+    Lines,
     /// The modules of a file.
-    Modules(String),
+    Modules,
     /// The source files of a file, looked for in folders.
-    Sources(String, Vec<String>),
+    Sources,
     /// What a file says of itself, and whether an image fits.
-    Info(String, Option<String>),
+    Info,
     /// The functions of a file with these names.
-    Locate(String, Vec<String>),
+    Locate,
     /// The sizes of a file.
-    Sizes(String, SizeOptions),
+    Sizes,
     /// The change of sizes from a file to another.
-    Diff(String, String, SizeOptions),
-}
-
-impl Drop for Task {
-    fn drop(self) {
-        match self {
-            Task::Functions(file) | Task::Lines(file) | Task::Modules(file) => drop(file),
-            Task::Sources(file, others) | Task::Locate(file, others) => {
-                drop(file);
-                drop(others);
-            }
-            Task::Info(file, image) => {
-                drop(file);
-                drop(image);
-            }
-            Task::Sizes(file, _) => drop(file),
-            Task::Diff(old, new, _) => {
-                drop(old);
-                drop(new);
-            }
-        }
-    }
+    Diff,
 }
 
 /// How sizes are listed.
@@ -157,20 +136,33 @@ pub struct SizeOptions {
 
 /// What is asked for, and how it is written.
 #[derive(Drop)]
-pub struct Request {
+pub struct Request<'a> {
     /// What is asked for.
     pub task: Task,
+    /// The path of the file.
+    pub file: &'a str,
+    /// The words after it: folders, names, an image, or the other file.
+    pub others: Vec<&'a str>,
+    /// How sizes are listed.
+    pub sizes: SizeOptions,
     /// The form of the output.
     pub format: Format,
     /// Whether decorated names are undecorated.
     pub demangle: bool,
 }
 
+impl<'a> Request<'a> {
+    /// The first word after the file.
+    pub fn other(&self) -> Option<&'a str> {
+        self.others.as_slice().first().copied()
+    }
+}
+
 /// What the arguments give.
 #[derive(Drop)]
-pub enum Given {
+pub enum Given<'a> {
     /// A request.
-    Request(Request),
+    Request(Request<'a>),
     /// A text to be printed, and the exit status after it: help or the version (0), or what is
     /// wrong with the arguments (2).
     Text(String, u8),
@@ -197,72 +189,91 @@ enum Extra {
     JoinPadding,
 }
 
-/// A command: its name, what it does, its help, its file's name, and its other arguments.
+/// A command: its task, its name, what it does, its help, the names of its file and of the words
+/// after that, and its other arguments.
 #[derive(Clone, Copy)]
 struct Described {
+    task: Task,
     name: &'static str,
     about: &'static str,
     text: &'static str,
     file: &'static str,
+    others: &'static str,
     extras: &'static [Extra],
 }
 
 /// The commands, in the order of the help.
 const COMMANDS: &[Described] = &[
     Described {
+        task: Task::Functions,
         name: "functions",
         about: "Lists the functions by address, each with its size, name, file and line",
         text: FUNCTIONS_TEXT,
         file: "FILE",
+        others: "",
         extras: &[Extra::Demangle],
     },
     Described {
+        task: Task::Lines,
         name: "lines",
         about: "Lists runs of code that have one line: address, length in bytes, file and line",
         text: LINES_TEXT,
         file: "FILE",
+        others: "",
         extras: &[],
     },
     Described {
+        task: Task::Modules,
         name: "modules",
         about: "Lists the modules: bytes of code, read-only, written and zeroed data; compiler",
         text: MODULES_TEXT,
         file: "FILE",
+        others: "",
         extras: &[],
     },
     Described {
+        task: Task::Sources,
         name: "sources",
         about: "Says of each source file whether it is the one that was built, changed or missing",
         text: SOURCES_TEXT,
         file: "FILE",
+        others: "FOLDER",
         extras: &[Extra::Folders],
     },
     Described {
+        task: Task::Info,
         name: "info",
         about: "Says what the database is: identity, machine, counts, compilers",
         text: INFO_TEXT,
         file: "FILE",
+        others: "IMAGE",
         extras: &[Extra::Image],
     },
     Described {
+        task: Task::Locate,
         name: "locate",
         about: "Lists the addresses of functions with these names",
         text: LOCATE_TEXT,
         file: "FILE",
+        others: "NAME",
         extras: &[Extra::Names],
     },
     Described {
+        task: Task::Sizes,
         name: "sizes",
         about: "Lists how many bytes functions, files or modules have, the largest first",
         text: SIZES_TEXT,
         file: "FILE",
+        others: "",
         extras: &[Extra::By, Extra::Top, Extra::JoinPadding, Extra::Demangle],
     },
     Described {
+        task: Task::Diff,
         name: "diff",
         about: "Lists what grew, shrank, came and went between two databases, by how many bytes",
         text: DIFF_TEXT,
         file: "OLD",
+        others: "NEW",
         extras: &[
             Extra::New,
             Extra::By,
@@ -390,21 +401,16 @@ fn program<'a>(alloc: Global) -> Result<Command<'a>, AllocError> {
     Ok(command)
 }
 
-/// The value of a name; empty where there is none.
-fn value(alloc: Global, matches: &ArgMatches<'_>, name: &str) -> Result<String, AllocError> {
-    String::from_str(alloc, matches.get_str(name).unwrap_or(""))
-}
-
-/// The values of a name.
-fn values(alloc: Global, matches: &ArgMatches<'_>, name: &str) -> Result<Vec<String>, AllocError> {
-    let mut values = Vec::new(alloc);
-    let Some(given) = matches.get_strs(name) else {
-        return Ok(values);
-    };
-    for value in given {
-        values.push(String::from_str(alloc, value)?)?;
+/// The words of a name.
+fn words_in<'a>(
+    alloc: Global,
+    matches: &ArgMatches<'a>,
+    name: &str,
+) -> Result<Vec<&'a str>, AllocError> {
+    match matches.get_strs(name) {
+        Some(words) => Vec::from_slice(alloc, words),
+        None => Ok(Vec::new(alloc)),
     }
-    Ok(values)
 }
 
 /// The form that is asked for.
@@ -428,92 +434,88 @@ fn by_in(matches: &ArgMatches<'_>) -> By {
     }
 }
 
+/// How many sizes are listed at most, if that is said; the word for it where it is no number.
+fn top_in<'a>(matches: &ArgMatches<'a>) -> Result<Option<usize>, &'a str> {
+    let Some(word) = matches.get_str("top") else {
+        return Ok(None);
+    };
+    match word.parse::<usize>() {
+        Ok(top) => Ok(Some(top)),
+        Err(_) => Err(word),
+    }
+}
+
 /// How sizes are listed.
-fn size_options(alloc: Global, matches: &ArgMatches<'_>) -> Result<SizeOptions, Fault> {
-    let top = match matches.get_str("top") {
-        None => None,
-        Some(word) => match word.parse::<usize>() {
-            Ok(top) => Some(top),
-            Err(_) => {
-                let text = format!(in alloc; "--top wants a number, and {word} is none")?;
-                return Err(Fault::Words(text));
-            }
-        },
-    };
-    let by = by_in(matches);
-    let join_padding = matches.get_flag("join-padding");
-    if join_padding && !matches!(by, By::Function) {
-        let text = "--join-padding goes with --by function alone";
-        return Err(Fault::Words(String::from_str(alloc, text)?));
-    }
-    Ok(SizeOptions {
-        by,
-        top,
-        join_padding,
-    })
-}
-
-/// The task of a command.
-fn task_of(alloc: Global, name: &str, matches: &ArgMatches<'_>) -> Result<Task, Fault> {
-    let file = value(alloc, matches, "FILE")?;
-    match name {
-        "functions" => Ok(Task::Functions(file)),
-        "lines" => Ok(Task::Lines(file)),
-        "modules" => Ok(Task::Modules(file)),
-        "sources" => Ok(Task::Sources(file, values(alloc, matches, "FOLDER")?)),
-        "info" => Ok(Task::Info(file, image_in(alloc, matches)?)),
-        "locate" => Ok(Task::Locate(file, values(alloc, matches, "NAME")?)),
-        "sizes" => Ok(Task::Sizes(file, size_options(alloc, matches)?)),
-        _ => {
-            let old = value(alloc, matches, "OLD")?;
-            let new = value(alloc, matches, "NEW")?;
-            Ok(Task::Diff(old, new, size_options(alloc, matches)?))
-        }
+fn size_options(matches: &ArgMatches<'_>) -> SizeOptions {
+    SizeOptions {
+        by: by_in(matches),
+        top: top_in(matches).unwrap_or(None),
+        join_padding: matches.get_flag("join-padding"),
     }
 }
 
-/// The image that is given, if one is.
-fn image_in(alloc: Global, matches: &ArgMatches<'_>) -> Result<Option<String>, AllocError> {
-    match matches.get_str("IMAGE") {
-        None => Ok(None),
-        Some(image) => Ok(Some(String::from_str(alloc, image)?)),
+/// What is wrong with how sizes are to be listed, if anything is.
+fn wrong_in(alloc: Global, matches: &ArgMatches<'_>) -> Result<Option<String>, AllocError> {
+    if let Err(word) = top_in(matches) {
+        let text = format!(in alloc; "error: --top wants a number, and {word} is none\n")?;
+        return Ok(Some(text));
     }
+    let options = size_options(matches);
+    if options.join_padding && !matches!(options.by, By::Function) {
+        let text = "error: --join-padding goes with --by function alone\n";
+        return Ok(Some(String::from_str(alloc, text)?));
+    }
+    Ok(None)
 }
 
-/// The request of what the arguments entered.
-fn request_of(alloc: Global, name: &str, matches: &ArgMatches<'_>) -> Result<Given, Fault> {
-    let task = match task_of(alloc, name, matches) {
-        Ok(task) => task,
-        Err(Fault::Words(text)) => {
-            let text = format!(in alloc; "error: {text}\n")?;
-            return Ok(Given::Text(text, 2));
-        }
-        Err(fault) => return Err(fault),
-    };
+/// What the arguments of a command give.
+fn request_of<'a>(
+    alloc: Global,
+    described: Described,
+    matches: &ArgMatches<'a>,
+) -> Result<Given<'a>, AllocError> {
+    if let Some(text) = wrong_in(alloc, matches)? {
+        return Ok(Given::Text(text, 2));
+    }
     Ok(Given::Request(Request {
-        task,
+        task: described.task,
+        file: matches.get_str(described.file).unwrap_or(""),
+        others: words_in(alloc, matches, described.others)?,
+        sizes: size_options(matches),
         format: format_in(matches),
         demangle: matches.get_flag("demangle"),
     }))
 }
 
+/// What the command gives that was entered.
+fn entered<'a>(alloc: Global, matches: &ArgMatches<'a>) -> Result<Given<'a>, AllocError> {
+    if let Some((name, inner)) = matches.subcommand() {
+        for described in COMMANDS {
+            if described.name == name {
+                return request_of(alloc, *described, inner);
+            }
+        }
+    }
+    Ok(Given::Text(String::new(alloc), 2))
+}
+
+/// What is said of an error in reading the arguments.
+fn told<'a>(alloc: Global, error: &Error) -> Result<Given<'a>, AllocError> {
+    if error.kind() == ErrorKind::OutOfMemory {
+        return Err(AllocError);
+    }
+    let text = error.to_string(alloc)?;
+    let status = if error.exit_code() == 0 { 0 } else { 2 };
+    Ok(Given::Text(text, status))
+}
+
 /// What the arguments after the program's name give.
 ///
 /// # Errors
-/// `OutOfMemory`.
-pub fn read_arguments(alloc: Global, words: &[String]) -> Result<Given, Fault> {
+/// `AllocError` when memory runs out.
+pub fn read_arguments<'a>(alloc: Global, words: &'a [String]) -> Result<Given<'a>, AllocError> {
     match program(alloc)?.try_get_matches_from(words) {
-        Ok(matches) => match matches.subcommand() {
-            Some((name, inner)) => request_of(alloc, name, inner),
-            None => Ok(Given::Text(String::new(alloc), 2)),
-        },
-        Err(error) => {
-            if error.kind() == ErrorKind::OutOfMemory {
-                return Err(Fault::OutOfMemory);
-            }
-            let text = error.to_string(alloc)?;
-            let status = if error.exit_code() == 0 { 0 } else { 2 };
-            Ok(Given::Text(text, status))
-        }
+        Ok(matches) => entered(alloc, &matches),
+        Err(error) => told(alloc, &error),
     }
 }

@@ -2,9 +2,9 @@
 
 use crate::fault::{Fault, load_fault};
 use crate::loaded::Loaded;
+use pdb_addr2line::LoadFault;
 use pdb_container::{Error, FallibleIterator};
-use pdb_databases::LoadFault;
-use pdb_listings::{ByteCounts, ModulePart, module_sizes};
+use pdb_listings::{Counts, ModulePart, module_sizes};
 use pdb_resolving::ModuleProvider;
 use pdb_symbols_modules::{DBISectionContribution, Module, ModuleInfo};
 use std::alloc::{AllocError, Global};
@@ -71,10 +71,7 @@ pub fn information_of<'a>(
 ///
 /// # Errors
 /// `Load`, `OutOfMemory`.
-pub fn sizes_of_modules(
-    alloc: Global,
-    loaded: Loaded<'_>,
-) -> Result<ByteCounts<ModulePart>, Fault> {
+pub fn sizes_of_modules(alloc: Global, loaded: Loaded<'_>) -> Result<Counts<ModulePart>, Fault> {
     let contributions = contributions_of(alloc, loaded)?;
     if contributions.len() >= 1 << 32 {
         return Err(Fault::OutOfMemory);

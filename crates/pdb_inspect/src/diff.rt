@@ -57,11 +57,26 @@ fn largest_first(alloc: Global, changes: Vec<Change>) -> Result<Vec<Change>, All
     Ok(found)
 }
 
-/// Writes what changed from sizes to others, the largest change first; in lines for people then the
-/// totals. Both are in the order of their names.
+/// What changes make together, under a name; at `u64::MAX` a sum stays.
+fn together(alloc: Global, name: &str, changes: &[Change]) -> Result<Change, AllocError> {
+    let mut sum = Change {
+        name: String::from_str(alloc, name)?,
+        old: 0,
+        new: 0,
+    };
+    for change in changes {
+        sum.old = sum.old.saturating_add(change.old);
+        sum.new = sum.new.saturating_add(change.new);
+    }
+    Ok(sum)
+}
+
+/// Writes what changed from sizes to others, the largest change first; in lines for people then
+/// what is left out where only `top` are written, and the totals. Both are in the order of their
+/// names.
 ///
 /// # Errors
-/// Why not all is written.
+/// Why not all are written.
 pub fn write<W: Write + Drop>(
     alloc: Global,
     old: &[Size],
@@ -70,13 +85,17 @@ pub fn write<W: Write + Drop>(
     output: &mut Output<W>,
 ) -> Result<(), Fault> {
     let changes = largest_first(alloc, changes_of(alloc, old, new)?)?;
+    let count = top.unwrap_or(changes.len()).min(changes.len());
+    let (listed, others) = changes.as_slice().split_at(count);
     output.header(COLUMNS)?;
-    let count = top.unwrap_or(changes.len());
-    for change in changes.iter().take(count) {
+    for change in listed {
         write_row(change, output)?;
     }
     if !output.is_text() {
         return Ok(());
+    }
+    if !others.is_empty() {
+        write_row(&together(alloc, "(others)", others)?, output)?;
     }
     let total = Change {
         name: String::from_str(alloc, "(total)")?,

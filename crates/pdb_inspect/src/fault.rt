@@ -1,6 +1,6 @@
 //! Why a listing isn't written.
 
-use pdb_databases::{FileFault, LoadFault};
+use pdb_addr2line::{FileFault, LoadFault};
 use std::alloc::{AllocError, AllocFailed, Global};
 use std::io::ErrorKind;
 use thiserror::Error;
@@ -17,9 +17,6 @@ pub enum Fault {
     /// A file is no image: its path, and why.
     #[error("cannot read the image {0}: {1}")]
     Image(String, String),
-    /// Options that don't go together, or words that stand for nothing.
-    #[error("{0}")]
-    Words(String),
     /// The output can't be written.
     #[error("cannot write to standard output")]
     Write,

@@ -3,9 +3,7 @@
 use crate::fault::Fault;
 use crate::loaded::Loaded;
 use crate::output::{Output, number_or_unknown, text_or_unknown};
-use pdb_addr2line::Function;
-use pdb_function_lists::{FunctionRow, list_functions};
-use pdb_listings::{Column, Value, listed_name};
+use pdb_listings::{Column, FunctionRow, Value, list_functions, listed_name};
 use std::alloc::Global;
 use std::io::Write;
 
@@ -37,11 +35,11 @@ const COLUMNS: &[Column] = &[
     },
 ];
 
-/// How many bytes a function has, if its end is known.
-fn size_of(function: &Function) -> Value<'static> {
-    match function.end_rva {
+/// How many bytes the function of a row has, if its end is known.
+fn size_of(row: &FunctionRow) -> Value<'static> {
+    match row.function.end_rva {
         None => Value::Unknown,
-        Some(end) => Value::Number(u64::from(end.saturating_sub(function.start_rva))),
+        Some(end) => Value::Number(u64::from(end.saturating_sub(row.function.start_rva))),
     }
 }
 
@@ -53,7 +51,7 @@ fn write_row<'r, W: Write + Drop>(
 ) -> Result<(), Fault> {
     let values = [
         Value::Address(row.function.start_rva),
-        size_of(&row.function),
+        size_of(row),
         name,
         text_or_unknown(&row.file),
         number_or_unknown(row.line),

@@ -7,10 +7,10 @@ use crate::modules::compiler;
 use crate::opened_file::open;
 use crate::output::{Output, text_or_unknown};
 use bumpalo::Bump;
+use pdb_addr2line::{FileOnDemand, PdbIdentity};
 use pdb_container::{half_at, word_at};
-use pdb_databases::{FileOnDemand, PdbIdentity};
 use pdb_image::{Image, ImageError};
-use pdb_listings::{ByteCounts, Column, Named, SymbolCounts, Value, add_bytes, listed};
+use pdb_listings::{Column, Counts, Named, SymbolCounts, Value, add_bytes, listed};
 use pdb_symbols_modules::{MachineType, Module};
 use std::alloc::{AllocError, Global};
 use std::fs;
@@ -206,8 +206,8 @@ fn modules_by_compiler(
     alloc: Global,
     loaded: Loaded<'_>,
     modules: &[Module<'_>],
-) -> Result<ByteCounts<Named>, AllocError> {
-    let mut table: ByteCounts<Named> = ByteCounts::new(alloc);
+) -> Result<Counts<Named>, AllocError> {
+    let mut table: Counts<Named> = Counts::new(alloc);
     for (number, module) in modules.iter().enumerate() {
         if let Some(name) = compiler(alloc, loaded, number, module)? {
             if table.total() < u64::MAX {
@@ -275,11 +275,11 @@ fn image_fault(alloc: Global, path: &str, error: ImageError) -> Result<Fault, Al
 /// Whether the image fits, if one is given.
 fn fits_if_given(
     rt: &(impl Files + AllocGlobal),
-    image: &Option<String>,
+    image: Option<&str>,
     identity: PdbIdentity,
 ) -> Result<Option<String>, Fault> {
     match image {
-        Some(image) => Ok(Some(image_fits(rt, image.as_str(), identity)?)),
+        Some(image) => Ok(Some(image_fits(rt, image, identity)?)),
         None => Ok(None),
     }
 }
@@ -337,7 +337,7 @@ pub fn write<W: Write + Drop>(
     rt: &(impl Files + AllocGlobal),
     loaded: Loaded<'_>,
     facts: FileFacts,
-    image: &Option<String>,
+    image: Option<&str>,
     output: &mut Output<W>,
 ) -> Result<(), Fault> {
     let fits = fits_if_given(rt, image, facts.identity)?;

@@ -5,10 +5,9 @@ ghost use Rattle.pdb_addresses.specs.Addresses.{IsOrdered};
 use crate::fault::Fault;
 use crate::loaded::Loaded;
 use crate::output::{Output, number_or_unknown, text_or_unknown};
+use pdb_addr2line::FileContext;
 use pdb_addresses::AddressMap;
-use pdb_databases::FileContext;
-use pdb_function_lists::{Line, is_same_line, line_run};
-use pdb_listings::{Column, Value};
+use pdb_listings::{Column, Line, Value, is_same_line, line_run};
 use std::alloc::Global;
 use std::io::Write;
 

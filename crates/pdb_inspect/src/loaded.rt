@@ -3,13 +3,13 @@
 use crate::fault::{Fault, file_fault, load_fault, read_fault};
 use crate::opened_file::open;
 use bumpalo::Bump;
-use pdb_addr2line::pdb::PDB;
-use pdb_container::{Error, Result as ReadResult, StringTable};
-use pdb_databases::{
+use pdb_addr2line::{
     ContributionOrder, FileContext, FileOnDemand, FileSymbolizer, Held, KeptModules, LoadFault,
     NotLoaded, TRIES, TypeFormatterFlags,
 };
+use pdb_container::{Error, Result as ReadResult, StringTable};
 use pdb_file_views::{FileSource, Wanted};
+use pdb_symbols_modules::PDB;
 use std::alloc::Global;
 use std::mem::forget;
 use std::os::unix::fs::FileExt;

@@ -4,8 +4,7 @@ use crate::fault::Fault;
 use crate::functions::rows_of;
 use crate::loaded::Loaded;
 use crate::output::{Output, text_or_unknown};
-use pdb_function_lists::{FunctionRow, functions_named};
-use pdb_listings::{Column, Value};
+use pdb_listings::{Column, FunctionRow, Value, functions_named};
 use std::alloc::Global;
 use std::io::Write;
 
@@ -91,7 +90,7 @@ fn write_named<W: Write + Drop>(
 pub fn write<W: Write + Drop>(
     rt: &(impl Eprint + AllocGlobal),
     loaded: Loaded<'_>,
-    names: &[String],
+    names: &[&str],
     output: &mut Output<W>,
 ) -> Result<bool, Fault> {
     let alloc = rt.alloc();
@@ -99,7 +98,7 @@ pub fn write<W: Write + Drop>(
     output.header(COLUMNS)?;
     let mut all = true;
     for name in names {
-        if !write_named(alloc, &rows, asked_by(name.as_str()), output)? {
+        if !write_named(alloc, &rows, asked_by(name), output)? {
             let _ = eprintln!(rt; "pdb_inspect: no function is called {name}");
             all = false;
         }

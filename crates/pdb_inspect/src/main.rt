@@ -1,5 +1,8 @@
 //! Lists what a program database has: `pdb_inspect functions FILE`, `lines`, `modules`, `sources`,
 //! `info`, `locate`, `sizes`, and `diff OLD NEW`.
+//!
+//! Commands may be added, and columns at the end of a row. The columns that are there, and their
+//! names in CSV and JSON, may not change: other programs read them.
 #![tactic(auto)]
 
 mod arguments;
@@ -60,7 +63,7 @@ fn main(rt: HostRuntime) -> ExitCode {
             let _ = rt.stderr().write_all(text.as_str().as_bytes());
             ExitCode::from(status)
         }
-        Err(fault) => end(&rt, Err(fault)),
+        Err(_) => end(&rt, Err(Fault::OutOfMemory)),
     }
 }
 
@@ -89,7 +92,7 @@ fn end(rt: &impl Eprint, outcome: Result<bool, Fault>) -> ExitCode {
 /// left to the process.
 fn run<S: Files + Eprint + AllocGlobal, W: Write + Drop, E: Write>(
     rt: &S,
-    request: &Request,
+    request: &Request<'_>,
     writer: W,
     progress: &mut Progress<E>,
 ) -> Result<bool, Fault>
@@ -109,7 +112,7 @@ where
 fn write_task<S: Files + Eprint + AllocGlobal, W: Write + Drop, E: Write>(
     rt: &S,
     arena: &Bump,
-    request: &Request,
+    request: &Request<'_>,
     output: &mut Output<W>,
     progress: &mut Progress<E>,
 ) -> Result<bool, Fault>
@@ -118,44 +121,55 @@ where
 {
     let alloc = rt.alloc();
     let demangle = request.demangle;
-    match &request.task {
-        Task::Functions(file) => {
-            let loaded = load(rt, arena, file.as_str(), Needs::Modules)?;
+    let file = request.file;
+    let others = request.others.as_slice();
+    match request.task {
+        Task::Functions => {
+            let loaded = load(rt, arena, file, Needs::Modules)?;
             functions::write(alloc, loaded, demangle, output)?;
         }
-        Task::Lines(file) => {
-            let loaded = load(rt, arena, file.as_str(), Needs::Modules)?;
-            lines::write(alloc, loaded, output)?;
+        Task::Lines => lines::write(alloc, load(rt, arena, file, Needs::Modules)?, output)?,
+        Task::Modules => modules::write(alloc, load(rt, arena, file, Needs::Modules)?, output)?,
+        Task::Sources => {
+            let (loaded, names) = load_with_names(rt, arena, file)?;
+            sources::write(rt, loaded, &names, others, output, progress)?;
         }
-        Task::Modules(file) => {
-            let loaded = load(rt, arena, file.as_str(), Needs::Modules)?;
-            modules::write(alloc, loaded, output)?;
+        Task::Info => {
+            let (loaded, facts) = info::load_with_facts(rt, arena, file)?;
+            info::write(rt, loaded, facts, request.other(), output)?;
         }
-        Task::Sources(file, folders) => {
-            let (loaded, names) = load_with_names(rt, arena, file.as_str())?;
-            sources::write(rt, loaded, &names, folders, output, progress)?;
+        Task::Locate => {
+            let loaded = load(rt, arena, file, Needs::Modules)?;
+            return locate::write(rt, loaded, others, output);
         }
-        Task::Info(file, image) => {
-            let (loaded, facts) = info::load_with_facts(rt, arena, file.as_str())?;
-            info::write(rt, loaded, facts, image, output)?;
-        }
-        Task::Locate(file, names) => {
-            let loaded = load(rt, arena, file.as_str(), Needs::Modules)?;
-            return locate::write(rt, loaded, names, output);
-        }
-        Task::Sizes(file, options) => {
-            let mut sizes = sizes_at(rt, arena, file.as_str(), *options, demangle)?;
+        Task::Sizes => {
+            let mut sizes = sizes_at(rt, arena, file, request.sizes, demangle)?;
             largest_first(&mut sizes)?;
-            sizes::write(&sizes, options.top, output)?;
+            sizes::write(&sizes, request.sizes.top, output)?;
         }
-        Task::Diff(old, new, options) => {
-            progress.over(old.as_str());
-            let old = sizes_at(rt, arena, old.as_str(), *options, demangle)?;
-            progress.over(new.as_str());
-            let new = sizes_at(rt, arena, new.as_str(), *options, demangle)?;
-            progress.end();
-            diff::write(alloc, &old, &new, options.top, output)?;
-        }
+        Task::Diff => write_changes(rt, arena, request, output, progress)?,
     }
     Ok(true)
+}
+
+/// Writes the change of sizes from a file to the other one, which the arguments give.
+fn write_changes<S: Files + AllocGlobal, W: Write + Drop, E: Write>(
+    rt: &S,
+    arena: &Bump,
+    request: &Request<'_>,
+    output: &mut Output<W>,
+    progress: &mut Progress<E>,
+) -> Result<(), Fault>
+where
+    S::File: FileExt,
+{
+    let Some(new) = request.other() else {
+        return Ok(());
+    };
+    progress.over(request.file);
+    let old = sizes_at(rt, arena, request.file, request.sizes, request.demangle)?;
+    progress.over(new);
+    let new = sizes_at(rt, arena, new, request.sizes, request.demangle)?;
+    progress.end();
+    diff::write(rt.alloc(), &old, &new, request.sizes.top, output)
 }

@@ -4,7 +4,7 @@ use crate::contributions::{information_of, modules_of, sizes_of_modules};
 use crate::fault::Fault;
 use crate::loaded::Loaded;
 use crate::output::{Output, text_or_unknown};
-use pdb_listings::{ByteCounts, Column, ModulePart, Part, Value, compiler_of};
+use pdb_listings::{Column, Counts, ModulePart, Part, Value, compiler_of};
 use pdb_symbols_modules::Module;
 use std::alloc::{AllocError, Global};
 use std::io::Write;
@@ -76,7 +76,7 @@ impl PartBytes {
 /// How many bytes the parts of each of so many modules have, and, last, those of no module.
 fn bytes_of(
     alloc: Global,
-    sizes: &ByteCounts<ModulePart>,
+    sizes: &Counts<ModulePart>,
     modules: usize,
 ) -> Result<Vec<PartBytes>, AllocError> {
     let none = PartBytes {

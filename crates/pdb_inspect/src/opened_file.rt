@@ -3,9 +3,8 @@
 
 use crate::fault::{Fault, read_fault};
 use bumpalo::Bump;
-use pdb_databases::{ContributionOrder, FileOnDemand};
+use pdb_addr2line::{ContributionOrder, FileOnDemand, read_file};
 use pdb_file_views::reach;
-use pdb_loading::read_file;
 use std::alloc::Global;
 use std::fs;
 use std::fs::OpenFile;

@@ -31,7 +31,7 @@ impl<W: Write + Drop> Output<W> {
 
     /// Whether it writes lines for people.
     pub fn is_text(&self) -> bool {
-        self.format == Format::Text
+        matches!(self.format, Format::Text)
     }
 
     /// Writes what waits.
@@ -53,7 +53,7 @@ impl<W: Write + Drop> Output<W> {
     /// # Errors
     /// `Write`, `OutOfMemory`.
     pub fn header(&mut self, columns: &[Column]) -> Result<(), Fault> {
-        append_header(&mut self.waiting, self.format, columns)?;
+        append_header(self.alloc, &mut self.waiting, self.format, columns)?;
         Ok(())
     }
 

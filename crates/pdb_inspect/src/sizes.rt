@@ -7,8 +7,10 @@ use crate::loaded::{Loaded, Needs, load};
 use crate::output::{Output, share_of};
 use bumpalo::Bump;
 use pdb_addresses::{AddressMap, ImageSectionHeader};
-use pdb_function_lists::{file_sizes, function_sizes, joined_sizes};
-use pdb_listings::{ByteCounts, Column, Named, Size, Value, add_bytes, listed, total_of};
+use pdb_listings::{
+    Column, Counts, Named, Size, Value, add_bytes, file_sizes, function_sizes, joined_sizes,
+    listed, total_of,
+};
 use pdb_symbols_modules::Module;
 use std::alloc::{AllocError, Global};
 use std::io::Write;
@@ -44,12 +46,7 @@ fn end_of(map: &AddressMap<'_>) -> u32 {
 }
 
 /// Adds bytes to a name, unless all names together would have more than 2^64 - 1.
-fn add(
-    alloc: Global,
-    table: &mut ByteCounts<Named>,
-    name: &str,
-    bytes: u64,
-) -> Result<(), AllocError> {
+fn add(alloc: Global, table: &mut Counts<Named>, name: &str, bytes: u64) -> Result<(), AllocError> {
     if table.total().checked_add(bytes).is_none() {
         return Ok(());
     }
@@ -61,11 +58,11 @@ fn by_function(
     alloc: Global,
     loaded: Loaded<'_>,
     undecorate: bool,
-) -> Result<ByteCounts<Named>, Fault> {
+) -> Result<Counts<Named>, Fault> {
     let context = loaded.context(alloc)?;
     let map = loaded.held.address_map();
     if !map.is_ordered() {
-        return Ok(ByteCounts::new(alloc));
+        return Ok(Counts::new(alloc));
     }
     let end = end_of(map);
     Ok(function_sizes(alloc, map, context, 0, end, undecorate)?)
@@ -76,18 +73,18 @@ fn by_function_joined(
     alloc: Global,
     loaded: Loaded<'_>,
     undecorate: bool,
-) -> Result<ByteCounts<Named>, Fault> {
+) -> Result<Counts<Named>, Fault> {
     let context = loaded.context(alloc)?;
     let contributions = contributions_of(alloc, loaded)?;
     Ok(joined_sizes(alloc, context, &contributions, undecorate)?)
 }
 
 /// Bytes by source file, or by its folder.
-fn by_file(alloc: Global, loaded: Loaded<'_>, by_folder: bool) -> Result<ByteCounts<Named>, Fault> {
+fn by_file(alloc: Global, loaded: Loaded<'_>, by_folder: bool) -> Result<Counts<Named>, Fault> {
     let context = loaded.context(alloc)?;
     let map = loaded.held.address_map();
     if !map.is_ordered() {
-        return Ok(ByteCounts::new(alloc));
+        return Ok(Counts::new(alloc));
     }
     Ok(file_sizes(alloc, map, context, 0, end_of(map), by_folder)?)
 }
@@ -95,7 +92,7 @@ fn by_file(alloc: Global, loaded: Loaded<'_>, by_folder: bool) -> Result<ByteCou
 /// Adds bytes of a module to its name, or to that of its library.
 fn add_module(
     alloc: Global,
-    table: &mut ByteCounts<Named>,
+    table: &mut Counts<Named>,
     module: Option<&Module<'_>>,
     by_library: bool,
     bytes: u64,
@@ -118,12 +115,8 @@ fn add_module(
 }
 
 /// Bytes that modules contribute, by the module or by its library.
-fn by_module(
-    alloc: Global,
-    loaded: Loaded<'_>,
-    by_library: bool,
-) -> Result<ByteCounts<Named>, Fault> {
-    let mut table = ByteCounts::new(alloc);
+fn by_module(alloc: Global, loaded: Loaded<'_>, by_library: bool) -> Result<Counts<Named>, Fault> {
+    let mut table = Counts::new(alloc);
     let modules = modules_of(alloc, loaded)?;
     let sizes = sizes_of_modules(alloc, loaded)?;
     for (key, bytes) in sizes.by_answer() {
@@ -134,8 +127,8 @@ fn by_module(
 }
 
 /// Bytes that are contributed to sections.
-fn by_section(alloc: Global, loaded: Loaded<'_>) -> Result<ByteCounts<Named>, Fault> {
-    let mut table = ByteCounts::new(alloc);
+fn by_section(alloc: Global, loaded: Loaded<'_>) -> Result<Counts<Named>, Fault> {
+    let mut table = Counts::new(alloc);
     let headers = loaded.held.address_map().image_section_headers();
     for contribution in contributions_of(alloc, loaded)? {
         let number = usize::from(contribution.offset.section);

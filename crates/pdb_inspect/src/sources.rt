@@ -1,13 +1,14 @@
 //! Source files, compared with those that a database was built of.
 
 use crate::contributions::{information_of, modules_of};
-use crate::fault::Fault;
+use crate::fault::{Fault, read_fault};
 use crate::loaded::Loaded;
 use crate::output::Output;
 use crate::progress::Progress;
 use pdb_container::StringTable;
 use pdb_listings::{Column, SourceFile, StoredSum, Value, Verdict, append_sources, verdict_of};
 use std::alloc::{AllocError, Global};
+use std::cmp::Ordering;
 use std::fs::{self, OpenFile};
 use std::io::{ErrorKind, Read, Write};
 use std::rt::Files;
@@ -45,6 +46,14 @@ fn sum_key(sum: &StoredSum) -> (u8, &[u8]) {
     }
 }
 
+/// The order of source files: by path, and then by checksum.
+fn source_order(a: &SourceFile, b: &SourceFile) -> Ordering {
+    let (a_kind, a_bytes) = sum_key(&a.sum);
+    let (b_kind, b_bytes) = sum_key(&b.sum);
+    let paths = a.path.cmp(&b.path);
+    paths.then(a_kind.cmp(&b_kind)).then(a_bytes.cmp(b_bytes))
+}
+
 /// The source files of all modules, by path, and each with each of its checksums once.
 fn all_sources(
     alloc: Global,
@@ -61,13 +70,8 @@ fn all_sources(
             append_sources(alloc, names, module, &mut sources)?;
         }
     }
-    sources.sort_by(|a: &SourceFile, b: &SourceFile| {
-        let (a_kind, a_bytes) = sum_key(&a.sum);
-        let (b_kind, b_bytes) = sum_key(&b.sum);
-        let paths = a.path.cmp(&b.path);
-        paths.then(a_kind.cmp(&b_kind)).then(a_bytes.cmp(b_bytes))
-    })?;
-    sources.dedup_by(|a: &mut SourceFile, b: &mut SourceFile| a == b);
+    sources.sort_by(|a: &SourceFile, b: &SourceFile| source_order(a, b))?;
+    sources.dedup_by(|a: &mut SourceFile, b: &mut SourceFile| source_order(a, b).is_eq());
     Ok(sources)
 }
 
@@ -144,7 +148,7 @@ fn verdict_in(
         };
         let file = format!(in rt.alloc(); "{folder}/{end}")?;
         verdict = better(verdict, verdict_at(rt, source, file.as_str())?);
-        if verdict == Verdict::Right {
+        if let Verdict::Right = verdict {
             return Ok(verdict);
         }
         rest = after_slash(end);
@@ -156,9 +160,9 @@ fn verdict_in(
 fn verdict_by(
     rt: &(impl Files + AllocGlobal),
     source: &SourceFile,
-    folders: &[String],
+    folders: &[&str],
 ) -> Result<Verdict, AllocError> {
-    if source.sum == StoredSum::None {
+    if let StoredSum::None = source.sum {
         return Ok(Verdict::NoChecksum);
     }
     if folders.is_empty() {
@@ -166,9 +170,24 @@ fn verdict_by(
     }
     let mut verdict = Verdict::Missing;
     for folder in folders {
-        verdict = better(verdict, verdict_in(rt, source, folder.as_str())?);
+        verdict = better(verdict, verdict_in(rt, source, folder)?);
     }
     Ok(verdict)
+}
+
+/// Checks that each folder is there.
+///
+/// # Errors
+/// `Read`, `OutOfMemory`.
+fn check_folders(rt: &(impl Files + AllocGlobal), folders: &[&str]) -> Result<(), Fault> {
+    for folder in folders {
+        match fs::metadata(rt, *folder) {
+            Ok(metadata) if metadata.is_dir() => {}
+            Ok(_) => return Err(read_fault(rt.alloc(), folder, ErrorKind::NotADirectory)),
+            Err(error) => return Err(read_fault(rt.alloc(), folder, error.kind())),
+        }
+    }
+    Ok(())
 }
 
 /// Writes what is said of each source file of a database.
@@ -179,10 +198,11 @@ pub fn write<W: Write + Drop, E: Write>(
     rt: &(impl Files + AllocGlobal),
     loaded: Loaded<'_>,
     names: &Option<StringTable<'_>>,
-    folders: &[String],
+    folders: &[&str],
     output: &mut Output<W>,
     progress: &mut Progress<E>,
 ) -> Result<(), Fault> {
+    check_folders(rt, folders)?;
     let sources = all_sources(rt.alloc(), loaded, names)?;
     output.header(COLUMNS)?;
     for (done, source) in sources.iter().enumerate() {

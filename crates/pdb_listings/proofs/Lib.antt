@@ -1,5 +1,11 @@
-pub mod Counts
+pub mod AddressCounts
 pub mod Folders
+pub mod KeySums
+pub mod KindCounts
+pub mod Lines
 pub mod Lists
+pub mod Marks
 pub mod Openings
+pub mod PlaceRuns
 pub mod Sums
+pub mod Told

@@ -1,27 +1,6 @@
--- Texts that grow by one element of a list at a time.
-use Rattle.std.proofs.Common.{◌≡◌, ℕ, zero, suc, ◌+◌, ◌<◌, ◌≤◌, List, [], ◌∷◌, ◌++◌, length, get_or, take, sym, ap, ◌∙◌, append_assoc, append-nil, add-one, codes}
-use Rattle.std.specs.List.{flat_map, repeat}
-use Rattle.std.proofs.lemmas.List.{take_more, take_all}
-use Rattle.std.proofs.lemmas.List.Concat.{flat_map-append}
-
-module _ {X : Type 0} (f : X → List ℕ) where
-  -- one element's text more
-  pub text_more : (xs : List X) (i : ℕ) (d : X) (front text : List ℕ) → i < length xs
-      → text ≡ front ++ flat_map f (take i xs)
-      → text ++ f (get_or xs i d) ≡ front ++ flat_map f (take (i + 1) xs)
-  text_more xs i d front text lt so_far =
-      let one : flat_map f (take (i + 1) xs) ≡ flat_map f (take i xs) ++ f (get_or xs i d) =
-      ap (flat_map f) (take_more xs i d lt) ∙ flat_map-append f (take i xs) (get_or xs i d ∷ [])
-      ∙ ap (λ l. flat_map f (take i xs) ++ l) (append-nil (f (get_or xs i d))) in
-      ap (λ l. l ++ f (get_or xs i d)) so_far
-      ∙ append_assoc front (flat_map f (take i xs)) (f (get_or xs i d))
-      ∙ ap (λ l. front ++ l) (sym one)
-
-  -- all elements' texts
-  pub text_all : (xs : List X) (i : ℕ) (front text : List ℕ) → length xs ≤ i
-      → text ≡ front ++ flat_map f (take i xs) → text ≡ front ++ flat_map f xs
-  text_all xs i front text past so_far =
-      so_far ∙ ap (λ (ys : List X). front ++ flat_map f ys) (take_all i xs past)
+-- Blanks, one after another.
+use Rattle.std.proofs.Common.{◌≡◌, ℕ, zero, suc, ◌+◌, List, ◌++◌, sym, ap, ◌∙◌, append_assoc, append-nil, add-one, codes}
+use Rattle.std.specs.List.{repeat}
 
 -- a text before as many copies of it as after them
 repeat_after : (xs : List ℕ) (n : ℕ) → repeat n xs ++ xs ≡ xs ++ repeat n xs

@@ -1,10 +1,12 @@
 -- The bytes that modules contribute to sections, by what may be done there.
-use Rattle.std.proofs.Common.{◌≡◌, ℕ, zero, suc, refl, sym, ap, ◌∙◌}
-use Rattle.std.specs.Prelude.{◌==◌, Bool, not, bit_and, if◌then◌else◌}
+use Rattle.std.proofs.Common.{◌≡◌, ◌+◌, ℕ, zero, suc, refl, sym, ap, ◌∙◌}
+use Rattle.std.specs.Prelude.{◌==◌, Bool, List, not, bit_and, if◌then◌else◌}
+use Rattle.std.specs.List.{sum_by}
 use Rattle.std.specs.declared.cmp.Ordering.{Ordering}
 use Rattle.std.specs.Cmp.{IsTotalOrder, on_total, then_total, nat_cmp_total}
 use Rattle.std.specs.Ordering.{nat_cmp, ordering_then}
 use Rattle.std.proofs.lemmas.Map.Lookups.{CmpEqualImpliesEq, exact_unsigned, exact_pairs}
+use Rattle.pdb_owners.specs.Table.{sum_where}
 use Rattle.pdb_symbols_modules.specs.declared.contributions.DBISectionContribution.{
   DBISectionContribution,
 }
@@ -30,6 +32,17 @@ module_part c = record { «module» = c.«module»; part = part_by c.characteris
 -- the bytes of a contribution, if its part passes a test
 abbrev pub contributed : (ModulePart → Bool) → DBISectionContribution → ℕ
 contributed test c = if test (module_part c) then c.size else 0
+
+-- The bytes of a contribution were added to those of its part in a table.
+abbrev pub AddsContribution : DBISectionContribution → List (ModulePart × ℕ)
+    → List (ModulePart × ℕ) → Type 0
+AddsContribution c old new = (test : ModulePart → Bool)
+    → sum_where test new ≡ sum_where test old + contributed test c
+
+-- The parts that pass a test have in a table the bytes of their contributions.
+abbrev pub HasContributions : List DBISectionContribution → List (ModulePart × ℕ) → Type 0
+HasContributions contributions table = (test : ModulePart → Bool)
+    → sum_where test table ≡ sum_by (contributed test) contributions
 
 -- the number of a part
 abbrev pub part_number : Part → ℕ

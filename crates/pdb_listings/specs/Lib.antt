@@ -1,6 +1,10 @@
 pub mod Contributed
+pub mod Functions
+pub mod NamedFunctions
+pub mod NamedSizes
 pub mod Names
 pub mod Rows
+pub mod Runs
 pub mod Sizes
 pub mod Sources
 pub mod Symbols

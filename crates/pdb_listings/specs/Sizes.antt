@@ -6,6 +6,7 @@ use Rattle.std.specs.Cmp.Lexicographic.{slice_cmp}
 use Rattle.std.specs.Ordering.{nat_cmp}
 use Rattle.std.proofs.lemmas.Map.Lookups.{CmpEqualImpliesEq, exact_bytes}
 use Rattle.pdb_owners.specs.FileAnswers.{FileAnswer, Nothing, Unreadable, NoFile, File}
+use Rattle.pdb_owners.specs.Table.{sum_where}
 use Rattle.pdb_listings.specs.declared.changes.Change.{Change}
 use Rattle.pdb_listings.specs.declared.sizes.Size.{Size}
 
@@ -20,6 +21,11 @@ size_seen s = (string_bytes s.name, s.bytes)
 -- all bytes together
 abbrev pub bytes_of : List Size → ℕ
 bytes_of sizes = sum_by (λ s. s.bytes) sizes
+
+-- Bytes were added to those of a name in a table, and to no other name's.
+abbrev pub AddsTo : List ℕ → ℕ → List (List ℕ × ℕ) → List (List ℕ × ℕ) → Type 0
+AddsTo name bytes old new = (test : List ℕ → Bool)
+    → sum_where test new ≡ sum_where test old + (if test name then bytes else 0)
 
 -- how many bytes a size lacks of the largest
 abbrev pub lack_of : Size → ℕ
@@ -48,6 +54,56 @@ old_where test changes = sum_by (old_in test) changes
 -- the bytes that they have
 abbrev pub new_where : (List ℕ → Bool) → List Change → ℕ
 new_where test changes = sum_by (new_in test) changes
+
+-- A name had the bytes of a size, if that counts; else it had none.
+abbrev pub HadIf : Bool → Size → Change → Type 0
+HadIf counts s c = (test : List ℕ → Bool)
+    → old_in test c ≡ (if counts then size_in test s else 0)
+
+-- It has them, if the size counts; else it has none.
+abbrev pub HasIf : Bool → Size → Change → Type 0
+HasIf counts s c = (test : List ℕ → Bool)
+    → new_in test c ≡ (if counts then size_in test s else 0)
+
+-- The names that pass any test had in changes the bytes that they have in sizes.
+abbrev pub HadBytes : List Size → List Change → Type 0
+HadBytes sizes changes = (test : List ℕ → Bool)
+    → old_where test changes ≡ bytes_where test sizes
+
+-- They have in changes the bytes that they have in sizes.
+abbrev pub HaveBytes : List Size → List Change → Type 0
+HaveBytes sizes changes = (test : List ℕ → Bool)
+    → new_where test changes ≡ bytes_where test sizes
+
+-- They had in changes what they had before, and the bytes that they have in sizes.
+abbrev pub HadMore : List Change → List Size → List Change → Type 0
+HadMore before sizes changes = (test : List ℕ → Bool)
+    → old_where test changes ≡ old_where test before + bytes_where test sizes
+
+-- They have in changes what they had before, and the bytes that they have in sizes.
+abbrev pub HaveMore : List Change → List Size → List Change → Type 0
+HaveMore before sizes changes = (test : List ℕ → Bool)
+    → new_where test changes ≡ new_where test before + bytes_where test sizes
+
+-- They had in changes what they had in others.
+abbrev pub HadSame : List Change → List Change → Type 0
+HadSame others changes = (test : List ℕ → Bool) → old_where test changes ≡ old_where test others
+
+-- They have in changes what they have in others.
+abbrev pub HaveSame : List Change → List Change → Type 0
+HaveSame others changes = (test : List ℕ → Bool) → new_where test changes ≡ new_where test others
+
+-- all bytes that the names of changes had
+abbrev pub old_total : List Change → ℕ
+old_total changes = sum_by (λ c. c.old) changes
+
+-- all bytes that they have
+abbrev pub new_total : List Change → ℕ
+new_total changes = sum_by (λ c. c.new) changes
+
+-- What all names have, less what they had, is the new total less the old one.
+abbrev pub IsDifference : List Size → List Size → List Change → Type 0
+IsDifference old new changes = new_total changes + bytes_of old ≡ old_total changes + bytes_of new
 
 -- a byte that parts a path
 abbrev pub is_separator : ℕ → Bool

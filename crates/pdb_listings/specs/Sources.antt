@@ -1,6 +1,7 @@
 -- Source files of a module, and what is said of them by their stored checksums.
-use Rattle.std.specs.Prelude.{◌≡◌, ℕ, List, [], ◌∷◌, Option, None, Some, Result, Ok, Err}
-use Rattle.std.specs.Prelude.{string_bytes}
+use Rattle.std.specs.Prelude.{◌≡◌, ◌++◌, ℕ, List, [], ◌∷◌, Option, None, Some, Result, Ok, Err}
+use Rattle.std.specs.Prelude.{map, string_bytes}
+use Rattle.std.specs.Global.{Vec}
 use Rattle.std.specs.List.{flat_map}
 use Rattle.std.specs.Str.Lossy.{utf8_lossy}
 use Rattle.md5.specs.Md5.{md5 as digest_by_md5}
@@ -37,6 +38,10 @@ pub record Source : Type 0 where
 abbrev pub source_seen : SourceFile → Source
 source_seen s = record { path = string_bytes s.path; sum = sum_seen s.sum }
 
+-- Sources were appended to source files.
+abbrev pub AddsSources : Vec SourceFile → List Source → Vec SourceFile → Type 0
+AddsSources old added new = map source_seen new.items ≡ map source_seen old.items ++ added
+
 -- a source file that may be missing
 abbrev pub source_list : Option SourceFile → List Source
 source_list None = []
@@ -51,7 +56,11 @@ source_by f (Err e) = []
 abbrev pub source_of : List ℕ → File → List Source
 source_of names f = source_by f (name_in names f.name)
 
+-- the sources of files
+abbrev pub sources_by : List ℕ → List File → List Source
+sources_by names files = flat_map (source_of names) files
+
 -- the sources of a module, by its line program; none where that can't be read
 abbrev pub sources_of : List ℕ → Result Program Fault → List Source
-sources_of names (Ok program) = flat_map (source_of names) (files_of program.files).items
+sources_of names (Ok program) = sources_by names (files_of program.files).items
 sources_of names (Err e) = []

@@ -1,5 +1,5 @@
 -- How many symbols of a kind there are.
-use Rattle.std.specs.Prelude.{◌≡◌, ℕ, Bool, List, [], ◌∷◌, map, Option, None, Some}
+use Rattle.std.specs.Prelude.{◌≡◌, ℕ, ◌+◌, ◌-◌, ◌^◌, Bool, List, [], ◌∷◌, map, min, Option, None, Some}
 use Rattle.std.specs.Prelude.{if◌then◌else◌}
 use Rattle.std.specs.List.{sum_by}
 use Rattle.pdb_symbol_records.specs.Iteration.{SymbolIteration, symbols_left}
@@ -12,6 +12,11 @@ kinds_left it = map kind_of (symbols_left it).items
 -- how many kinds pass a test
 abbrev pub how_many : (ℕ → Bool) → List ℕ → ℕ
 how_many test kinds = sum_by (λ k. if test k then 1 else 0) kinds
+
+-- a count that was raised by how many of the symbols still to come have a kind that passes a test;
+-- at most 2^64 - 1
+abbrev pub count_after : ℕ → (ℕ → Bool) → SymbolIteration → ℕ
+count_after count test it = min (2 ^ 64 - 1) (count + how_many test (kinds_left it))
 
 -- the first of kinds, and those after it; none where there is none
 abbrev pub GivesKind : List ℕ → Option ℕ → List ℕ → Type 0

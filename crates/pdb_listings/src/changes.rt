@@ -1,18 +1,15 @@
 //! What changed between the sizes of two databases.
 
-ghost use Rattle.std.specs.Prelude.{◌≡◌, ℕ, ◌+◌, ◌||◌, Bool, false, true, List, IfOk, OnOk, string_bytes};
-ghost use Rattle.std.specs.Prelude.{if◌then◌else◌};
-ghost use Rattle.std.specs.List.{sum_by};
-ghost use Rattle.pdb_listings.specs.Sizes.{bytes_where, new_in, new_where, old_in, old_where};
-ghost use Rattle.pdb_listings.specs.Sizes.{bytes_of, size_in};
-ghost use Rattle.pdb_listings.specs.declared.changes.Change.{Change as Changed};
+ghost use Rattle.std.specs.Prelude.{◌≡◌, ◌+◌, ◌||◌, false, true, IfOk, OnOk, string_bytes};
+ghost use Rattle.pdb_listings.specs.Sizes.{HadBytes, HadIf, HadMore, HadSame, HasIf, HaveBytes};
+ghost use Rattle.pdb_listings.specs.Sizes.{HaveMore, HaveSame, IsDifference};
 
 use crate::sizes::Size;
 use std::alloc::{AllocError, Global};
 use std::cmp::Ordering;
 
 /// How many bytes a name had, and how many it has.
-#[derive(Debug, Drop, PartialEq)]
+#[derive(Drop)]
 pub struct Change {
     /// The name.
     pub name: String,
@@ -49,8 +46,8 @@ fn named_change(alloc: Global, name: &str, old: u64, new: u64) -> Result<Change,
 /// The change of a name that went.
 #[tactic(auto, using(crate::proofs::Sums::old_as, crate::proofs::Sums::none_if))]
 fn gone(alloc: Global, size: &Size) -> Result<Change, AllocError>
-    ensures old { IfOk result (λ c. (test : List ℕ → Bool) → old_in test c ≡ size_in test size.now) }
-    ensures new { IfOk result (λ c. (test : List ℕ → Bool) → new_in test c ≡ 0) }
+    ensures old { IfOk result (HadIf true size.now) }
+    ensures new { IfOk result (HasIf false size.now) }
 {
     named_change(alloc, size.name.as_str(), size.bytes, 0)
 }
@@ -58,8 +55,8 @@ fn gone(alloc: Global, size: &Size) -> Result<Change, AllocError>
 /// The change of a name that came.
 #[tactic(auto, using(crate::proofs::Sums::new_as, crate::proofs::Sums::none_if))]
 fn came(alloc: Global, size: &Size) -> Result<Change, AllocError>
-    ensures old { IfOk result (λ c. (test : List ℕ → Bool) → old_in test c ≡ 0) }
-    ensures new { IfOk result (λ c. (test : List ℕ → Bool) → new_in test c ≡ size_in test size.now) }
+    ensures old { IfOk result (HadIf false size.now) }
+    ensures new { IfOk result (HasIf true size.now) }
 {
     named_change(alloc, size.name.as_str(), 0, size.bytes)
 }
@@ -68,18 +65,16 @@ fn came(alloc: Global, size: &Size) -> Result<Change, AllocError>
 #[tactic(auto, using(crate::proofs::Sums::old_as, crate::proofs::Sums::new_as))]
 fn stayed(alloc: Global, old: &Size, new: &Size) -> Result<Change, AllocError>
     requires { string_bytes old.now.name ≡ string_bytes new.now.name }
-    ensures old { IfOk result (λ c. (test : List ℕ → Bool) → old_in test c ≡ size_in test old.now) }
-    ensures new { IfOk result (λ c. (test : List ℕ → Bool) → new_in test c ≡ size_in test new.now) }
+    ensures old { IfOk result (HadIf true old.now) }
+    ensures new { IfOk result (HasIf true new.now) }
 {
     named_change(alloc, old.name.as_str(), old.bytes, new.bytes)
 }
 
 /// Appends changes of names that went.
 fn append_gone(alloc: Global, changes: &mut Vec<Change>, old: &[Size]) -> Result<(), AllocError>
-    ensures old { OnOk result ((test : List ℕ → Bool) → old_where test changes.new.items
-        ≡ old_where test changes.old.items + bytes_where test old.now) }
-    ensures new { OnOk result ((test : List ℕ → Bool) → new_where test changes.new.items
-        ≡ new_where test changes.old.items) }
+    ensures old { OnOk result (HadMore changes.old.items old.now changes.new.items) }
+    ensures new { OnOk result (HaveSame changes.old.items changes.new.items) }
 {
     for size in old {
         changes.push(gone(alloc, size)?)?;
@@ -89,10 +84,8 @@ fn append_gone(alloc: Global, changes: &mut Vec<Change>, old: &[Size]) -> Result
 
 /// Appends changes of names that came.
 fn append_came(alloc: Global, changes: &mut Vec<Change>, new: &[Size]) -> Result<(), AllocError>
-    ensures old { OnOk result ((test : List ℕ → Bool) → old_where test changes.new.items
-        ≡ old_where test changes.old.items) }
-    ensures new { OnOk result ((test : List ℕ → Bool) → new_where test changes.new.items
-        ≡ new_where test changes.old.items + bytes_where test new.now) }
+    ensures old { OnOk result (HadSame changes.old.items changes.new.items) }
+    ensures new { OnOk result (HaveMore changes.old.items new.now changes.new.items) }
 {
     for size in new {
         changes.push(came(alloc, size)?)?;
@@ -103,10 +96,8 @@ fn append_came(alloc: Global, changes: &mut Vec<Change>, new: &[Size]) -> Result
 /// The change at a place of each list: of the lesser name, or of both where the names are equal;
 /// and whether each list's entry is in it.
 fn change_at(alloc: Global, old: &Size, new: &Size) -> Result<(Change, bool, bool), AllocError>
-    ensures old { IfOk result (λ r. (test : List ℕ → Bool)
-        → old_in test r.0 ≡ (if r.1 then size_in test old.now else 0)) }
-    ensures new { IfOk result (λ r. (test : List ℕ → Bool)
-        → new_in test r.0 ≡ (if r.2 then size_in test new.now else 0)) }
+    ensures old { IfOk result (λ r. HadIf r.1 old.now r.0) }
+    ensures new { IfOk result (λ r. HasIf r.2 new.now r.0) }
     ensures some { IfOk result (λ r. (r.1 || r.2) ≡ true) }
 {
     match old.name.cmp(&new.name) {
@@ -123,13 +114,10 @@ fn change_at(alloc: Global, old: &Size, new: &Size) -> Result<(Change, bool, boo
 /// # Errors
 /// `AllocError` when memory runs out.
 pub fn changes_of(alloc: Global, old: &[Size], new: &[Size]) -> Result<Vec<Change>, AllocError>
-    ensures old { IfOk result (λ changes. (test : List ℕ → Bool)
-        → old_where test changes.items ≡ bytes_where test old.now) }
-    ensures new { IfOk result (λ changes. (test : List ℕ → Bool)
-        → new_where test changes.items ≡ bytes_where test new.now) }
+    ensures old { IfOk result (λ changes. HadBytes old.now changes.items) }
+    ensures new { IfOk result (λ changes. HaveBytes new.now changes.items) }
     // What all have, less what they had, is the new total less the old one.
-    ensures total { IfOk result (λ changes. sum_by (λ (c : Changed). c.new) changes.items
-        + bytes_of old.now ≡ sum_by (λ (c : Changed). c.old) changes.items + bytes_of new.now) }
+    ensures total { IfOk result (λ changes. IsDifference old.now new.now changes.items) }
 {
     let mut changes = Vec::new(alloc);
     let mut i = 0;

@@ -2,11 +2,11 @@
 
 ghost use Rattle.std.specs.Prelude.{◌≡◌, ◌++◌, OnOk, true};
 ghost use Rattle.std.specs.List.{flat_map, list_any};
-ghost use Rattle.pdb_listings.specs.Values.{csv_field, csv_text, csv_value, doubled as doubled_byte};
+ghost use Rattle.pdb_listings.specs.Values.{csv_text, csv_value, doubled as doubled_byte};
 ghost use Rattle.pdb_listings.specs.Values.{is_special as is_special_byte};
 
 use crate::plain::{append, bare_string};
-use crate::value::{Field, Value};
+use crate::value::Value;
 use std::alloc::{AllocError, Global};
 
 /// Whether a text that has this byte is quoted.
@@ -34,7 +34,7 @@ fn append_doubled(output: &mut Vec<u8>, byte: u8) -> Result<(), AllocError>
 }
 
 /// Appends what stands for bytes between quotes.
-#[tactic(auto, using(crate::proofs::Lists::text_more, crate::proofs::Lists::text_all))]
+#[tactic(auto, using(json_strings::proofs::Lists::text_more, json_strings::proofs::Lists::text_all))]
 fn append_bytes(output: &mut Vec<u8>, text: &[u8]) -> Result<(), AllocError>
     ensures { OnOk result (output.new.items ≡ output.old.items ++ flat_map doubled_byte text.now) }
 {
@@ -46,7 +46,7 @@ fn append_bytes(output: &mut Vec<u8>, text: &[u8]) -> Result<(), AllocError>
 
 /// Appends a text.
 #[tactic(auto, unfolding(crate::specs::Values::csv_text))]
-pub(crate) fn append_csv_text(output: &mut Vec<u8>, text: &str) -> Result<(), AllocError>
+fn append_csv_text(output: &mut Vec<u8>, text: &str) -> Result<(), AllocError>
     ensures { OnOk result (output.new.items ≡ output.old.items ++ csv_text text.now) }
 {
     if !is_quoted(text.as_bytes()) {
@@ -58,7 +58,7 @@ pub(crate) fn append_csv_text(output: &mut Vec<u8>, text: &str) -> Result<(), Al
 }
 
 /// Appends a value.
-fn append_csv_value(
+pub(crate) fn append_csv_value(
     alloc: Global,
     output: &mut Vec<u8>,
     value: &Value<'_>,
@@ -70,15 +70,4 @@ fn append_csv_value(
     }
     let text = bare_string(alloc, value)?;
     append(output, text.as_str())
-}
-
-/// Appends a field.
-pub(crate) fn append_csv_field(
-    alloc: Global,
-    output: &mut Vec<u8>,
-    field: &Field<'_>,
-) -> Result<(), AllocError>
-    ensures { OnOk result (output.new.items ≡ output.old.items ++ csv_field field.now) }
-{
-    append_csv_value(alloc, output, &field.value)
 }

@@ -1,24 +1,24 @@
 //! The bytes of modules, by their contributions to sections.
 
-ghost use Rattle.std.specs.Prelude.{◌≡◌, ◌+◌, ◌^◌, ◌<◌, ◌≤◌, Bool, IfOk, OnOk, Some, length, refl};
+ghost use Rattle.std.specs.Prelude.{◌≡◌, ◌+◌, ◌^◌, ◌<◌, ◌≤◌, IfOk, OnOk, Some, length, refl};
 ghost use Rattle.std.specs.Cmp.{eq_by_cmp_equiv, partial_equiv_from_equiv};
 ghost use Rattle.std.specs.Cmp.{partial_order_from_total};
 ghost use Rattle.std.specs.List.{sum_by};
 ghost use Rattle.pdb_owners.specs.Answers.{is_same};
-ghost use Rattle.pdb_owners.specs.Table.{sum_of, sum_where};
-ghost use Rattle.pdb_listings.specs.Contributed.{contributed, module_part as module_part_of};
+ghost use Rattle.pdb_owners.specs.Table.{sum_of};
+ghost use Rattle.pdb_listings.specs.Contributed.{AddsContribution, HasContributions};
+ghost use Rattle.pdb_listings.specs.Contributed.{module_part as module_part_of};
 ghost use Rattle.pdb_listings.specs.Contributed.{part_by, part_cmp, part_exact, part_number};
 ghost use Rattle.pdb_listings.specs.Contributed.{part_total};
 
-use crate::byte_counts::ByteCounts;
 use pdb_addresses::SectionCharacteristics;
-use pdb_owners::Countable;
+use pdb_owners::{Countable, Counts};
 use pdb_symbols_modules::DBISectionContribution;
 use std::alloc::{AllocError, Global};
 use std::cmp::Ordering;
 
 /// What a contribution is, by what may be done in its section.
-#[derive(Clone, Copy, Debug)]
+#[derive(Clone, Copy)]
 pub enum Part {
     /// Code, or what may run.
     Code,
@@ -45,7 +45,7 @@ impl Part {
 }
 
 /// A part of a module.
-#[derive(Clone, Copy, Debug)]
+#[derive(Clone, Copy)]
 pub struct ModulePart {
     /// The module's number, counted from 0.
     pub module: u16,
@@ -135,15 +135,14 @@ fn module_part(contribution: &DBISectionContribution) -> ModulePart
 pub fn module_sizes(
     alloc: Global,
     contributions: &[DBISectionContribution],
-) -> Result<ByteCounts<ModulePart>, AllocError>
+) -> Result<Counts<ModulePart>, AllocError>
     requires { length contributions.now < 2 ^ 32 }
     // The bytes of the parts that pass a test are those of their contributions.
-    ensures each { IfOk result (λ table. (test : ModulePart → Bool)
-        → sum_where test table ≡ sum_by (contributed test) contributions.now) }
+    ensures each { IfOk result (HasContributions contributions.now) }
     // All of them together are the bytes of all contributions.
     ensures total { IfOk result (λ table. sum_of table ≡ sum_by (λ c. c.size) contributions.now) }
 {
-    let mut table = ByteCounts::new(alloc);
+    let mut table = Counts::new(alloc);
     for contribution in contributions {
         add_contribution(&mut table, contribution)?;
     }
@@ -152,12 +151,11 @@ pub fn module_sizes(
 
 /// Adds the bytes of a contribution to those of its module's part.
 fn add_contribution(
-    table: &mut ByteCounts<ModulePart>,
+    table: &mut Counts<ModulePart>,
     contribution: &DBISectionContribution,
 ) -> Result<(), AllocError>
     requires { sum_of table.old + 2 ^ 32 ≤ 2 ^ 64 }
-    ensures each { OnOk result ((test : ModulePart → Bool)
-        → sum_where test table.new ≡ sum_where test table.old + contributed test contribution.now) }
+    ensures each { OnOk result (AddsContribution contribution.now table.old table.new) }
     ensures total { OnOk result (sum_of table.new ≡ sum_of table.old + contribution.now.size) }
     ensures room { OnOk result (sum_of table.new < sum_of table.old + 2 ^ 32) }
 {

@@ -13,7 +13,7 @@ use std::cmp::Ordering;
 use std::marker::Model;
 
 /// A name that bytes are counted by, in the order of its bytes.
-#[derive(Debug, Drop)]
+#[derive(Drop)]
 pub struct Named {
     /// The name.
     pub name: String,

@@ -1,7 +1,7 @@
 //! Names by which functions are looked for, and as which they are listed.
 
 ghost use Rattle.std.specs.Prelude.{◌≡◌, ◌↔◌, ◌<◌, ◌^◌, false, IfOk, IsTrue, string_bytes};
-ghost use Rattle.pdb_listings.specs.Names.{IsCalled, is_decorated as is_decorated_name};
+ghost use Rattle.pdb_listings.specs.Names.{IsCalled, is_decorated as decorated};
 ghost use Rattle.pdb_listings.specs.Names.{last_opening as last_opening_of};
 ghost use Rattle.pdb_listings.specs.Names.{unopened_by as unopened_from};
 ghost use Rattle.pdb_listings.specs.Names.{without_arguments as front_of};
@@ -59,7 +59,7 @@ pub fn is_called(name: &[u8], asked: &[u8]) -> bool
 
 /// Whether a name is decorated as those of Visual C++ are: whether it begins with a question mark.
 pub fn is_decorated(name: &[u8]) -> bool
-    ensures { result ≡ is_decorated_name name.now }
+    ensures { result ≡ decorated name.now }
 {
     name.first() == Some(&b'?')
 }
@@ -71,7 +71,7 @@ pub fn is_decorated(name: &[u8]) -> bool
 /// `AllocError` when memory runs out.
 pub fn has_name(alloc: Global, name: &[u8], asked: &[u8]) -> Result<bool, AllocError>
     ensures stored { IfOk result (λ found. IsCalled name.now asked.now → IsTrue found) }
-    ensures plain { is_decorated_name name.now ≡ false
+    ensures plain { decorated name.now ≡ false
         → IfOk result (λ found. IsTrue found → IsCalled name.now asked.now) }
 {
     if is_called(name, asked) {
@@ -92,7 +92,7 @@ pub fn has_name(alloc: Global, name: &[u8], asked: &[u8]) -> Result<bool, AllocE
 /// `AllocError` when memory runs out.
 pub fn listed_name(alloc: Global, name: &str, undecorate: bool) -> Result<String, AllocError>
     ensures stored { undecorate ≡ false → IfOk result (λ text. string_bytes text ≡ name.now) }
-    ensures plain { is_decorated_name name.now ≡ false
+    ensures plain { decorated name.now ≡ false
         → IfOk result (λ text. string_bytes text ≡ name.now) }
 {
     if !undecorate || !is_decorated(name.as_bytes()) {

@@ -29,7 +29,7 @@ fn append_blanks(output: &mut Vec<u8>, count: usize) -> Result<(), AllocError>
 }
 
 /// Appends a text after what stands before it, and after blanks up to a width.
-pub(crate) fn append_padded(
+fn append_padded(
     output: &mut Vec<u8>,
     before: &str,
     width: usize,

@@ -1,18 +1,19 @@
 //! Rows and headers, as texts.
 
-ghost use Rattle.std.specs.Prelude.{◌≡◌, ◌++◌, ◌∷◌, OnOk};
+ghost use Rattle.std.specs.Prelude.{◌≡◌, ◌++◌, IfOk, OnOk, map};
 ghost use Rattle.std.specs.List.{flat_map};
-ghost use Rattle.pdb_listings.specs.Rows.{csv_name, header_text, joined, plain_name, row_text};
-ghost use Rattle.pdb_listings.specs.Values.{csv_field, json_field, plain_field};
+ghost use Rattle.pdb_listings.specs.Rows.{closing_text, field_text, fields_text, header_text};
+ghost use Rattle.pdb_listings.specs.Rows.{later_text, name_field, opening_text, row_text};
+ghost use Rattle.pdb_listings.specs.Rows.{separator_text};
 
-use crate::csv::{append_csv_field, append_csv_text};
+use crate::csv::append_csv_value;
 use crate::json::append_json_field;
-use crate::plain::{append, append_padded, append_plain_field};
-use crate::value::{Column, Field};
+use crate::plain::{append, append_plain_field};
+use crate::value::{Column, Field, Value};
 use std::alloc::{AllocError, Global};
 
 /// A form of texts.
-#[derive(Clone, Copy, Debug, PartialEq, Eq)]
+#[derive(Clone, Copy)]
 pub enum Format {
     /// Lines for people.
     Text,
@@ -22,71 +23,86 @@ pub enum Format {
     Json,
 }
 
-/// Appends fields of a line for people.
-#[tactic(auto, using(crate::proofs::Lists::text_more, crate::proofs::Lists::text_all))]
-fn append_plain(alloc: Global, output: &mut Vec<u8>, fields: &[Field<'_>]) -> Result<(), AllocError>
-    ensures { OnOk result (output.new.items ≡ output.old.items ++ flat_map plain_field fields.now) }
+impl Format {
+    /// What stands before the fields of a row.
+    fn opening(self) -> &'static str
+        ensures { result.now ≡ opening_text self }
+    {
+        match self {
+            Format::Json => "{",
+            Format::Text | Format::Csv => "",
+        }
+    }
+
+    /// What stands before each field after the first.
+    fn separator(self) -> &'static str
+        ensures { result.now ≡ separator_text self }
+    {
+        match self {
+            Format::Text => "",
+            Format::Csv | Format::Json => ",",
+        }
+    }
+
+    /// What stands after the fields.
+    fn closing(self) -> &'static str
+        ensures { result.now ≡ closing_text self }
+    {
+        match self {
+            Format::Json => "}\n",
+            Format::Text | Format::Csv => "\n",
+        }
+    }
+}
+
+/// Appends a field.
+fn append_field(
+    alloc: Global,
+    output: &mut Vec<u8>,
+    format: Format,
+    field: &Field<'_>,
+) -> Result<(), AllocError>
+    ensures { OnOk result (output.new.items ≡ output.old.items ++ field_text format field.now) }
+{
+    match format {
+        Format::Text => append_plain_field(alloc, output, field),
+        Format::Csv => append_csv_value(alloc, output, &field.value),
+        Format::Json => append_json_field(alloc, output, field),
+    }
+}
+
+/// Appends fields after the first.
+#[tactic(auto, using(json_strings::proofs::Lists::text_more, json_strings::proofs::Lists::text_all))]
+fn append_later_fields(
+    alloc: Global,
+    output: &mut Vec<u8>,
+    format: Format,
+    fields: &[Field<'_>],
+) -> Result<(), AllocError>
+    ensures { OnOk result (output.new.items
+        ≡ output.old.items ++ flat_map (later_text format) fields.now) }
 {
     for field in fields {
-        append_plain_field(alloc, output, field)?;
+        append(output, format.separator())?;
+        append_field(alloc, output, format, field)?;
     }
     Ok(())
 }
 
-/// Appends fields of CSV.
-fn append_csv(alloc: Global, output: &mut Vec<u8>, fields: &[Field<'_>]) -> Result<(), AllocError>
-    ensures { OnOk result (output.new.items ≡ output.old.items ++ joined csv_field fields.now) }
+/// Appends fields.
+fn append_fields(
+    alloc: Global,
+    output: &mut Vec<u8>,
+    format: Format,
+    fields: &[Field<'_>],
+) -> Result<(), AllocError>
+    ensures { OnOk result (output.new.items ≡ output.old.items ++ fields_text format fields.now) }
 {
     let Some((first, rest)) = fields.split_first() else {
         return Ok(());
     };
-    append_csv_field(alloc, output, first)?;
-    append_more_csv(alloc, output, rest)
-}
-
-/// Appends fields of CSV after the first.
-#[tactic(auto, using(crate::proofs::Lists::text_more, crate::proofs::Lists::text_all))]
-fn append_more_csv(
-    alloc: Global,
-    output: &mut Vec<u8>,
-    fields: &[Field<'_>],
-) -> Result<(), AllocError>
-    ensures { OnOk result (output.new.items
-        ≡ output.old.items ++ flat_map (λ f. 44 ∷ csv_field f) fields.now) }
-{
-    for field in fields {
-        append(output, ",")?;
-        append_csv_field(alloc, output, field)?;
-    }
-    Ok(())
-}
-
-/// Appends members of an object.
-fn append_json(alloc: Global, output: &mut Vec<u8>, fields: &[Field<'_>]) -> Result<(), AllocError>
-    ensures { OnOk result (output.new.items ≡ output.old.items ++ joined json_field fields.now) }
-{
-    let Some((first, rest)) = fields.split_first() else {
-        return Ok(());
-    };
-    append_json_field(alloc, output, first)?;
-    append_more_json(alloc, output, rest)
-}
-
-/// Appends members of an object after the first.
-#[tactic(auto, using(crate::proofs::Lists::text_more, crate::proofs::Lists::text_all))]
-fn append_more_json(
-    alloc: Global,
-    output: &mut Vec<u8>,
-    fields: &[Field<'_>],
-) -> Result<(), AllocError>
-    ensures { OnOk result (output.new.items
-        ≡ output.old.items ++ flat_map (λ f. 44 ∷ json_field f) fields.now) }
-{
-    for field in fields {
-        append(output, ",")?;
-        append_json_field(alloc, output, field)?;
-    }
-    Ok(())
+    append_field(alloc, output, format, first)?;
+    append_later_fields(alloc, output, format, rest)
 }
 
 /// Appends a row.
@@ -101,56 +117,24 @@ pub fn append_row(
 ) -> Result<(), AllocError>
     ensures { OnOk result (output.new.items ≡ output.old.items ++ row_text format fields.now) }
 {
-    match format {
-        Format::Text => {
-            append_plain(alloc, output, fields)?;
-            append(output, "\n")
-        }
-        Format::Csv => {
-            append_csv(alloc, output, fields)?;
-            append(output, "\n")
-        }
-        Format::Json => {
-            append(output, "{")?;
-            append_json(alloc, output, fields)?;
-            append(output, "}\n")
-        }
-    }
+    append(output, format.opening())?;
+    append_fields(alloc, output, format, fields)?;
+    append(output, format.closing())
 }
 
-/// Appends names in the header of lines for people.
-#[tactic(auto, using(crate::proofs::Lists::text_more, crate::proofs::Lists::text_all))]
-fn append_plain_names(output: &mut Vec<u8>, columns: &[Column]) -> Result<(), AllocError>
-    ensures { OnOk result (output.new.items ≡ output.old.items ++ flat_map plain_name columns.now) }
+/// The columns' names, as the fields of a row.
+#[tactic(auto, using(std::proofs::lemmas::List::map_more, std::proofs::lemmas::List::take_all))]
+fn names_of(alloc: Global, columns: &[Column]) -> Result<Vec<Field<'static>>, AllocError>
+    ensures { IfOk result (λ names. names.items ≡ map name_field columns.now) }
 {
+    let mut names = Vec::new(alloc);
     for column in columns {
-        append_padded(output, column.before, column.width, column.name)?;
+        names.push(Field {
+            column: *column,
+            value: Value::Text(column.name),
+        })?;
     }
-    Ok(())
-}
-
-/// Appends names in the header of CSV.
-fn append_csv_names(output: &mut Vec<u8>, columns: &[Column]) -> Result<(), AllocError>
-    ensures { OnOk result (output.new.items ≡ output.old.items ++ joined csv_name columns.now) }
-{
-    let Some((first, rest)) = columns.split_first() else {
-        return Ok(());
-    };
-    append_csv_text(output, first.name)?;
-    append_more_csv_names(output, rest)
-}
-
-/// Appends names in the header of CSV after the first.
-#[tactic(auto, using(crate::proofs::Lists::text_more, crate::proofs::Lists::text_all))]
-fn append_more_csv_names(output: &mut Vec<u8>, columns: &[Column]) -> Result<(), AllocError>
-    ensures { OnOk result (output.new.items
-        ≡ output.old.items ++ flat_map (λ c. 44 ∷ csv_name c) columns.now) }
-{
-    for column in columns {
-        append(output, ",")?;
-        append_csv_text(output, column.name)?;
-    }
-    Ok(())
+    Ok(names)
 }
 
 /// Appends the line of the columns' names, where the form has one.
@@ -158,21 +142,16 @@ fn append_more_csv_names(output: &mut Vec<u8>, columns: &[Column]) -> Result<(),
 /// # Errors
 /// `AllocError` when memory runs out.
 pub fn append_header(
+    alloc: Global,
     output: &mut Vec<u8>,
     format: Format,
     columns: &[Column],
 ) -> Result<(), AllocError>
     ensures { OnOk result (output.new.items ≡ output.old.items ++ header_text format columns.now) }
 {
-    match format {
-        Format::Text => {
-            append_plain_names(output, columns)?;
-            append(output, "\n")
-        }
-        Format::Csv => {
-            append_csv_names(output, columns)?;
-            append(output, "\n")
-        }
-        Format::Json => Ok(()),
+    if let Format::Json = format {
+        return Ok(());
     }
+    let names = names_of(alloc, columns)?;
+    append_row(alloc, output, format, &names)
 }

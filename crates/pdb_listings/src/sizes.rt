@@ -1,19 +1,19 @@
 //! Bytes by name.
 
-ghost use Rattle.std.specs.Prelude.{◌≡◌, ℕ, ◌+◌, ◌-◌, ◌^◌, ◌<◌, Bool, List, IfOk, OnOk, map, min};
-ghost use Rattle.std.specs.Prelude.{MatchOption, false, if◌then◌else◌};
+ghost use Rattle.std.specs.Prelude.{◌≡◌, ◌+◌, ◌-◌, ◌^◌, ◌<◌, IfOk, MatchOption, OnOk, false};
+ghost use Rattle.std.specs.Prelude.{map, min};
 ghost use Rattle.std.specs.List.{list_any};
 ghost use Rattle.std.specs.List.Sorted.{IsNonDecreasingBy, IsPermutation};
-ghost use Rattle.pdb_owners.specs.Table.{sum_of, sum_where};
-ghost use Rattle.pdb_listings.specs.Sizes.{IsLastSeparator, bytes_of, folder, is_separator};
-ghost use Rattle.pdb_listings.specs.Sizes.{lack_of, size_seen};
+ghost use Rattle.pdb_owners.specs.Table.{sum_of};
+ghost use Rattle.pdb_listings.specs.Sizes.{AddsTo, IsLastSeparator, bytes_of, folder};
+ghost use Rattle.pdb_listings.specs.Sizes.{is_separator, lack_of, size_seen};
 
-use crate::byte_counts::ByteCounts;
 use crate::named::Named;
+use pdb_owners::Counts;
 use std::alloc::{AllocError, Global};
 
 /// How many bytes a name has.
-#[derive(Debug, Drop, PartialEq)]
+#[derive(Drop)]
 pub struct Size {
     /// The name.
     pub name: String,
@@ -27,13 +27,12 @@ pub struct Size {
 /// `AllocError` when memory runs out.
 pub fn add_bytes(
     alloc: Global,
-    table: &mut ByteCounts<Named>,
+    table: &mut Counts<Named>,
     name: &str,
     bytes: u64,
 ) -> Result<(), AllocError>
     requires room { sum_of table.old + bytes < 2 ^ 64 }
-    ensures each { OnOk result ((test : List ℕ → Bool)
-        → sum_where test table.new ≡ sum_where test table.old + (if test name.now then bytes else 0)) }
+    ensures each { OnOk result (AddsTo name.now bytes table.old table.new) }
     ensures total { OnOk result (sum_of table.new ≡ sum_of table.old + bytes) }
 {
     if bytes == 0 {
@@ -74,7 +73,7 @@ fn last_separator(path: &[u8]) -> Option<usize>
 /// # Errors
 /// `AllocError` when memory runs out.
 #[tactic(auto, using(crate::proofs::Sums::listed_more))]
-pub fn listed(alloc: Global, table: &ByteCounts<Named>) -> Result<Vec<Size>, AllocError>
+pub fn listed(alloc: Global, table: &Counts<Named>) -> Result<Vec<Size>, AllocError>
     ensures { IfOk result (λ sizes. map size_seen sizes.items ≡ table.now) }
 {
     let mut sizes = Vec::new(alloc);

@@ -1,14 +1,12 @@
 //! Source files of modules, and whether a file is the one that its module was built of.
 
-ghost use Rattle.std.specs.Prelude.{◌≡◌, ◌↔◌, ◌++◌, IfOk, IfSome, IsSome, IsTrue, OnOk, map};
-ghost use Rattle.std.specs.Prelude.{string_bytes};
-ghost use Rattle.std.specs.List.{flat_map};
+ghost use Rattle.std.specs.Prelude.{◌≡◌, ◌↔◌, IfOk, IfSome, IsSome, IsTrue, OnOk, string_bytes};
 ghost use Rattle.std.specs.Str.Lossy.{utf8_lossy};
 ghost use Rattle.pdb_container.specs.RawString.{raw_bytes};
 ghost use Rattle.pdb_lines.specs.Checksums.{checksum_seen, file_seen};
-ghost use Rattle.pdb_listings.specs.Sources.{HasSum, source_list, source_of as source_of_file};
-ghost use Rattle.pdb_listings.specs.Sources.{source_seen, sources_of, sum_seen};
-ghost use Rattle.pdb_symbols_modules.specs.ModuleStream.{line_program_in};
+ghost use Rattle.pdb_listings.specs.Sources.{AddsSources, HasSum, source_list, sources_by};
+ghost use Rattle.pdb_listings.specs.Sources.{source_of as source_of_file, sources_of, sum_seen};
+ghost use Rattle.pdb_symbols_modules.specs.ModuleStream.{line_program_in as program_in};
 
 use md5::{Digest as Md5Digest, Md5};
 use pdb_container::{Error, FallibleIterator, RawString, StringTable};
@@ -18,7 +16,7 @@ use sha2::{Digest as Sha2Digest, Sha256};
 use std::alloc::{AllocError, Global};
 
 /// The checksum of a source file that a database has.
-#[derive(Debug, Drop, PartialEq)]
+#[derive(Drop)]
 pub enum StoredSum {
     /// None.
     None,
@@ -31,7 +29,7 @@ pub enum StoredSum {
 }
 
 /// A source file of a database.
-#[derive(Debug, Drop, PartialEq)]
+#[derive(Drop)]
 pub struct SourceFile {
     /// Its path, as it was built.
     pub path: String,
@@ -40,7 +38,7 @@ pub struct SourceFile {
 }
 
 /// What is said of a source file.
-#[derive(Clone, Copy, Debug, PartialEq, Eq)]
+#[derive(Clone, Copy)]
 pub enum Verdict {
     /// A file has the stored checksum.
     Right,
@@ -68,7 +66,7 @@ fn has_sum(sum: &StoredSum, bytes: &[u8]) -> bool
 pub fn verdict_of(sum: &StoredSum, bytes: Option<&[u8]>) -> Verdict
     // `Right` exactly where the digest of the bytes is the stored one.
     ensures right { (result ≡ Verdict.Right)
-        ↔ IfSome bytes.entry (λ given. HasSum sum.now given.now) × IsSome bytes.entry }
+        ↔ IfSome bytes.entry (λ it. HasSum sum.now it.now) × IsSome bytes.entry }
     ensures none { (result ≡ Verdict.NoChecksum) ↔ (sum.now ≡ StoredSum.None) }
 {
     if let StoredSum::None = sum {
@@ -129,8 +127,8 @@ fn append_source(
     file: FileInfo<'_>,
     sources: &mut Vec<SourceFile>,
 ) -> Result<(), AllocError>
-    ensures { OnOk result (map source_seen sources.new.items
-        ≡ map source_seen sources.old.items ++ source_of_file names.now (file_seen file.entry)) }
+    ensures { OnOk result (AddsSources sources.old
+        (source_of_file names.now (file_seen file.entry)) sources.new) }
 {
     match source_of(alloc, names, file)? {
         None => Ok(()),
@@ -148,9 +146,8 @@ fn append_files(
     mut files: FileIterator<'_>,
     sources: &mut Vec<SourceFile>,
 ) -> Result<(), AllocError>
-    ensures { OnOk result (map source_seen sources.new.items
-        ≡ map source_seen sources.old.items
-        ++ flat_map (source_of_file names.now) files.entry.items) }
+    ensures { OnOk result (AddsSources sources.old
+        (sources_by names.now files.entry.items) sources.new) }
 {
     while let Ok(Some(file)) = files.next() {
         append_source(alloc, names, file, sources)?;
@@ -166,14 +163,13 @@ fn append_files(
 pub fn append_sources(
     alloc: Global,
     names: &StringTable<'_>,
-    module: &ModuleInfo<'_>,
+    info: &ModuleInfo<'_>,
     sources: &mut Vec<SourceFile>,
 ) -> Result<(), AllocError>
-    ensures { OnOk result (map source_seen sources.new.items
-        ≡ map source_seen sources.old.items
-        ++ sources_of names.now (line_program_in module.now)) }
+    ensures { OnOk result (AddsSources sources.old
+        (sources_of names.now (program_in info.now)) sources.new) }
 {
-    match module.line_program(alloc) {
+    match info.line_program(alloc) {
         Ok(program) => append_files(alloc, names, program.files(), sources),
         Err(Error::OutOfMemory) => Err(AllocError),
         Err(_) => Ok(()),

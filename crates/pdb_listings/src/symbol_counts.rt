@@ -1,7 +1,7 @@
 //! How many procedures and public symbols there are.
 
-ghost use Rattle.std.specs.Prelude.{◌≡◌, ◌+◌, ◌-◌, ◌^◌, min};
-ghost use Rattle.pdb_listings.specs.Symbols.{GivesKind, how_many, kinds_left};
+ghost use Rattle.std.specs.Prelude.{◌≡◌};
+ghost use Rattle.pdb_listings.specs.Symbols.{GivesKind, count_after, kinds_left};
 ghost use Rattle.pdb_symbol_records.specs.Kinds.{is_procedure as is_procedure_kind};
 ghost use Rattle.pdb_symbol_records.specs.Kinds.{is_public as is_public_kind};
 
@@ -10,7 +10,7 @@ use pdb_symbol_records::kinds::{is_procedure, is_public};
 use pdb_symbols_modules::SymbolIter;
 
 /// How many procedures and public symbols were counted.
-#[derive(Clone, Copy, Debug, Default, PartialEq)]
+#[derive(Clone, Copy, Default)]
 pub struct SymbolCounts {
     /// Procedures.
     pub procedures: u64,
@@ -19,7 +19,7 @@ pub struct SymbolCounts {
 }
 
 /// The kind of the next symbol; none at the end, and where it can't be read.
-#[tactic(auto, using(crate::proofs::Counts::kinds_more, crate::proofs::Counts::kinds_ended))]
+#[tactic(auto, using(crate::proofs::KindCounts::kinds_more, crate::proofs::KindCounts::kinds_ended))]
 fn next_kind(symbols: &mut SymbolIter<'_>) -> Option<u16>
     ensures { GivesKind (kinds_left symbols.old) result (kinds_left symbols.new) }
 {
@@ -32,12 +32,12 @@ fn next_kind(symbols: &mut SymbolIter<'_>) -> Option<u16>
 
 impl SymbolCounts {
     /// Counts symbols up to the first that can't be read. At `u64::MAX` a count stays.
-    #[tactic(auto, using(crate::proofs::Counts::counted_more))]
+    #[tactic(auto, using(crate::proofs::KindCounts::counted_more))]
     pub fn add(&mut self, mut symbols: SymbolIter<'_>)
-        ensures procedures { self.new.procedures ≡ min (2 ^ 64 - 1) (self.old.procedures
-            + how_many is_procedure_kind (kinds_left symbols.entry)) }
-        ensures publics { self.new.publics ≡ min (2 ^ 64 - 1) (self.old.publics
-            + how_many is_public_kind (kinds_left symbols.entry)) }
+        ensures procedures { self.new.procedures
+            ≡ count_after self.old.procedures is_procedure_kind symbols.entry }
+        ensures publics { self.new.publics
+            ≡ count_after self.old.publics is_public_kind symbols.entry }
     {
         let mut procedures = self.procedures;
         let mut publics = self.publics;

@@ -1,7 +1,7 @@
 //! Values, and the columns that they stand in.
 
 /// A value of a row.
-#[derive(Clone, Copy, Debug, PartialEq)]
+#[derive(Clone, Copy)]
 pub enum Value<'v> {
     /// It isn't known.
     Unknown,
@@ -18,7 +18,7 @@ pub enum Value<'v> {
 }
 
 /// A column of a listing.
-#[derive(Clone, Copy, Debug, PartialEq)]
+#[derive(Clone, Copy)]
 pub struct Column {
     /// Its name.
     pub name: &'static str,
@@ -29,7 +29,7 @@ pub struct Column {
 }
 
 /// A value in a column.
-#[derive(Clone, Copy, Debug, PartialEq)]
+#[derive(Clone, Copy)]
 pub struct Field<'v> {
     /// The column.
     pub column: Column,

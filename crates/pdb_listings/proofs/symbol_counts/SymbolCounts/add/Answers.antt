@@ -1,6 +1,6 @@
 use Rattle.pdb_symbol_records.specs.Kinds.{is_procedure, is_public}
 use Rattle.pdb_listings.specs.Symbols.{kinds_left}
-use Rattle.pdb_listings.proofs.Counts.{counted_all}
+use Rattle.pdb_listings.proofs.KindCounts.{counted_all}
 use Rattle.pdb_listings.proofs.symbol_counts.SymbolCounts.add.Goals as goal
 
 pub returns-clause-procedures : goal.returns-clause-procedures

@@ -1,4 +1,0 @@
-pub mod Functions
-pub mod NamedFunctions
-pub mod NamedSizes
-pub mod Runs

@@ -1,0 +1,20 @@
+use Rattle.std.proofs.Common.{◌≡◌, ℕ, ◌+◌, ◌≤◌, Bool, true, false, List}
+use Rattle.pdb_owners.specs.FunctionOrder.{Function}
+use Rattle.pdb_owners.specs.Table.{sum_found, sum_of, sum_where}
+use Rattle.pdb_owners.specs.Texts.{text_or}
+use Rattle.pdb_addr2line.specs.ContextAnswers.{keyed_in}
+use Rattle.pdb_listings.proofs.owner_sizes.name_functions.Given as goal
+
+-- the bytes so far, and those of the keys that are left, are all
+abbrev pub invariant-loop-key : goal.invariant-loop-key
+invariant-loop-key g l =
+    let keyed = keyed_in g.P.ModuleProvider.provided l.fn.runs.context in
+    record {
+      each : l.undecorate ≡ false → (test : List ℕ → Bool)
+          → sum_where test l.table + sum_found keyed.answer_of (λ (f : Function). test (text_or f.name)) l.key-iterator
+          ≡ sum_found keyed.answer_of (λ (f : Function). test (text_or f.name)) l.keys;
+      total : sum_of l.table + sum_found keyed.answer_of (λ _. true) l.key-iterator
+          ≡ sum_found keyed.answer_of (λ _. true) l.keys;
+      room : sum_of l.table + sum_of l.key-iterator ≤ sum_of l.keys;
+      same : keyed_in g.P.ModuleProvider.provided l.runs.context ≡ keyed;
+    }

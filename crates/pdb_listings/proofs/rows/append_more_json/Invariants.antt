@@ -1,9 +1,0 @@
-use Rattle.std.proofs.Common.{◌≡◌, ◌++◌, ◌∷◌, take}
-use Rattle.std.specs.List.{flat_map}
-use Rattle.pdb_listings.specs.Values.{json_field}
-use Rattle.pdb_listings.proofs.rows.append_more_json.Given as goal
-
--- the texts so far stand after the output
-abbrev pub invariant-loop-field : goal.invariant-loop-field
-invariant-loop-field l =
-    l.output.items ≡ l.fn.output.items ++ flat_map (λ it. 44 ∷ json_field it) (take l.field-index l.fields)

@@ -1,0 +1,116 @@
+-- Bytes by the names of functions or of source files.
+use Rattle.std.specs.Prelude.{◌≡◌, ℕ, ◌+◌, ◌-◌, Bool, false, true, List, [], Option, Result, IfOk, OnOk}
+use Rattle.std.specs.Prelude.{if◌then◌else◌}
+use Rattle.pdb_addresses.specs.Addresses.{Map}
+use Rattle.pdb_owners.specs.Answers.{picked}
+use Rattle.pdb_addresses.specs.Places.{Place}
+use Rattle.pdb_owners.specs.Counts.{answer_along, counted_at, how_many}
+use Rattle.pdb_owners.specs.Databases.{Keyed}
+use Rattle.pdb_owners.specs.FileAnswers.{FileAnswer}
+use Rattle.pdb_owners.specs.FunctionOrder.{Function}
+use Rattle.pdb_owners.specs.Table.{IsCounted, sum_found, sum_of, sum_where}
+use Rattle.pdb_owners.specs.Texts.{text_or}
+use Rattle.pdb_listings.specs.Sizes.{path_name}
+
+-- ---- names
+
+-- a test of names, of the stored name of a function
+abbrev pub function_named : (List ℕ → Bool) → Function → Bool
+function_named test f = test (text_or f.name)
+
+-- and of the path of a source file, or of its folder
+abbrev pub file_named : Bool → (List ℕ → Bool) → FileAnswer → Bool
+file_named by_folder test f = test (path_name by_folder f)
+
+-- bytes by names
+abbrev pub Table : Type 0
+Table = List (List ℕ × ℕ)
+
+-- ---- keys
+
+-- The answers of so many places from one on, if there is one, have come to a table by their keys.
+abbrev pub CountsPlaces : {K A : Type 0} → Keyed K A → Option Place → ℕ → List (K × ℕ)
+    → List (K × ℕ) → Type 0
+CountsPlaces keyed place count old new =
+    IsCounted keyed.answer_of (answer_along keyed.places place) 0 count old new
+
+-- A table has the answers of the addresses of a range, by their keys.
+abbrev pub CountsRange : {K A : Type 0} → Map → Keyed K A → ℕ → ℕ → List (K × ℕ) → Type 0
+CountsRange m keyed start end table =
+    IsCounted keyed.answer_of (counted_at m keyed.places) start (end - start) [] table
+
+-- ---- one key more
+
+-- Bytes were added to the name of the answer that a key stands for, if there is one, and to no
+-- other name.
+abbrev pub AddsNamed : {K A T E : Type 0} → ((List ℕ → Bool) → A → Bool) → Keyed K A → K → ℕ
+    → Table → Table → Result T E → Type 0
+AddsNamed named keyed key bytes old new result = OnOk result ((test : List ℕ → Bool)
+    → sum_where test new
+    ≡ sum_where test old + (if picked (named test) (keyed.answer_of key) then bytes else 0))
+
+-- Bytes were added to the stored name of the function that a key stands for, if there is one;
+-- nothing is said where names are undecorated.
+abbrev pub AddsName : {K T E : Type 0} → Bool → Keyed K Function → K → ℕ → Table → Table
+    → Result T E → Type 0
+AddsName undecorate keyed key bytes old new result = undecorate ≡ false
+    → AddsNamed function_named keyed key bytes old new result
+
+-- Bytes were added to the path of the source file that a key stands for, or to its folder.
+abbrev pub AddsPath : {K T E : Type 0} → Bool → Keyed K FileAnswer → K → ℕ → Table → Table
+    → Result T E → Type 0
+AddsPath by_folder = AddsNamed (file_named by_folder)
+
+-- Bytes were added if a key stands for an answer.
+abbrev pub AddsBytes : {K A T E : Type 0} → Keyed K A → K → ℕ → Table → Table → Result T E → Type 0
+AddsBytes keyed key bytes old new result = OnOk result
+    (sum_of new ≡ sum_of old + (if picked (λ _. true) (keyed.answer_of key) then bytes else 0))
+
+-- ---- the answers of keys
+
+-- The bytes by name are those of the keys whose answers have the name.
+abbrev pub SumsNamed : {K A E : Type 0} → ((List ℕ → Bool) → A → Bool) → Keyed K A → List (K × ℕ)
+    → Result Table E → Type 0
+SumsNamed named keyed keys result = IfOk result (λ table. (test : List ℕ → Bool)
+    → sum_where test table ≡ sum_found keyed.answer_of (named test) keys)
+
+-- The same by the stored names of functions, unless names are undecorated.
+abbrev pub SumsNames : {K E : Type 0} → Bool → Keyed K Function → List (K × ℕ) → Result Table E
+    → Type 0
+SumsNames undecorate keyed keys result = undecorate ≡ false
+    → SumsNamed function_named keyed keys result
+
+-- The same by the paths of source files, or by their folders.
+abbrev pub SumsPaths : {K E : Type 0} → Bool → Keyed K FileAnswer → List (K × ℕ) → Result Table E
+    → Type 0
+SumsPaths by_folder = SumsNamed (file_named by_folder)
+
+-- The bytes are those of the keys that have an answer.
+abbrev pub SumsBytes : {K A E : Type 0} → Keyed K A → List (K × ℕ) → Result Table E → Type 0
+SumsBytes keyed keys result =
+    IfOk result (λ table. sum_of table ≡ sum_found keyed.answer_of (λ _. true) keys)
+
+-- ---- the addresses of a range
+
+-- The bytes by name are how many addresses of a range have an answer of the name.
+abbrev pub CountsNamed : {K A E : Type 0} → ((List ℕ → Bool) → A → Bool) → Map → Keyed K A → ℕ → ℕ
+    → Result Table E → Type 0
+CountsNamed named m keyed start end result = IfOk result (λ table. (test : List ℕ → Bool)
+    → sum_where test table
+    ≡ how_many (λ a. picked (named test) (counted_at m keyed.places a)) start (end - start))
+
+-- The same by the stored names of functions, unless names are undecorated.
+abbrev pub CountsNames : {K E : Type 0} → Bool → Map → Keyed K Function → ℕ → ℕ → Result Table E
+    → Type 0
+CountsNames undecorate m keyed start end result = undecorate ≡ false
+    → CountsNamed function_named m keyed start end result
+
+-- The same by the paths of source files, or by their folders.
+abbrev pub CountsPaths : {K E : Type 0} → Bool → Map → Keyed K FileAnswer → ℕ → ℕ → Result Table E
+    → Type 0
+CountsPaths by_folder = CountsNamed (file_named by_folder)
+
+-- The bytes are how many addresses of a range have an answer.
+abbrev pub CountsBytes : {K A E : Type 0} → Map → Keyed K A → ℕ → ℕ → Result Table E → Type 0
+CountsBytes m keyed start end result = IfOk result (λ table. sum_of table
+    ≡ how_many (λ a. picked (λ _. true) (counted_at m keyed.places a)) start (end - start))

@@ -1,0 +1,112 @@
+//! Runs of addresses that have one line.
+
+ghost use Rattle.std.specs.Prelude.{◌≡◌, ◌+◌, ◌<◌, ◌≤◌, ◌↔◌, IfOk, IsTrue, option_map};
+ghost use Rattle.std.specs.Prelude.{string_bytes};
+ghost use Rattle.std.specs.Cow.{cow_str_bytes};
+ghost use Rattle.pdb_addresses.specs.Addresses.{IsOrdered};
+ghost use Rattle.pdb_addr2line.specs.Context.{lasting};
+ghost use Rattle.pdb_listings.specs.Runs.{IsLineRun, line_in, line_seen};
+
+use crate::places::place_run;
+use pdb_addr2line::{Context, SharedFunctionFrames};
+use pdb_addresses::AddressMap;
+use pdb_resolving::ModuleProvider;
+use std::alloc::{AllocError, Global};
+use std::borrow::CowStr;
+
+/// How many addresses are looked at ahead. Most lines have fewer.
+const AHEAD: u32 = 64;
+
+/// A line of source.
+#[derive(Drop, PartialEq)]
+pub struct Line {
+    /// The source file, if it is known.
+    pub file: Option<String>,
+    /// The line, counted from 1, if it is known.
+    pub line: Option<u32>,
+}
+
+/// A file's name of its own.
+pub(crate) fn owned_file(
+    alloc: Global,
+    file: &Option<CowStr<'_>>,
+) -> Result<Option<String>, AllocError>
+    ensures { IfOk result (λ own. option_map string_bytes own ≡ option_map cow_str_bytes file.now) }
+{
+    match file {
+        None => Ok(None),
+        Some(file) => Ok(Some(String::from_str(alloc, file)?)),
+    }
+}
+
+/// The line of the innermost of frames.
+fn innermost_line(
+    alloc: Global,
+    found: &Option<SharedFunctionFrames<'_>>,
+) -> Result<Option<Line>, AllocError>
+    ensures { IfOk result (λ line. option_map line_seen line ≡ line_in found.now) }
+{
+    let Some(found) = found else {
+        return Ok(None);
+    };
+    let Some(frame) = found.frames.first() else {
+        return Ok(None);
+    };
+    Ok(Some(Line {
+        file: owned_file(alloc, &frame.file)?,
+        line: frame.line,
+    }))
+}
+
+/// Where looking ahead from an address on ends: at `end`, or [`AHEAD`] addresses further.
+fn ahead_of(address: u32, end: u32) -> u32
+    requires { address < end }
+    ensures some { address < result }
+    ensures within { result ≤ end }
+{
+    if end - address > AHEAD {
+        address + AHEAD
+    } else {
+        end
+    }
+}
+
+/// The line at an address, if it has one, and over how many addresses from there on and before
+/// `end` it is the same at least. An address that becomes 0xffffffff has none. `map` is that of the
+/// context.
+///
+/// # Errors
+/// `AllocError` when memory runs out.
+#[tactic(auto, using(crate::proofs::Lines::no_line))]
+pub fn line_run<P: ModuleProvider>(
+    alloc: Global,
+    context: &mut Context<'_, '_, P>,
+    map: &AddressMap<'_>,
+    address: u32,
+    end: u32,
+) -> Result<(Option<Line>, u32), AllocError>
+    requires ordered { IsOrdered map.now }
+    requires order { address < end }
+    ensures same { lasting context.new ≡ lasting context.old }
+    ensures some { IfOk result (λ run. 1 ≤ run.1) }
+    ensures within { IfOk result (λ run. address + run.1 ≤ end) }
+    // Each address of the run has this line, as its frames say.
+    ensures each { map.now ≡ (context.old.parts).map
+        → IfOk result (IsLineRun P.provided context.old address) }
+{
+    let (place, count) = place_run(map, address, ahead_of(address, end));
+    let Some(place) = place else {
+        return Ok((None, count));
+    };
+    let Ok((found, count)) = context.find_shared_frames_run(alloc, place, count) else {
+        return Err(AllocError);
+    };
+    Ok((innermost_line(alloc, &found)?, count))
+}
+
+/// Whether two lines are one: file and number are equal.
+pub fn is_same_line(a: &Line, b: &Line) -> bool
+    ensures { IsTrue result ↔ (line_seen a.now ≡ line_seen b.now) }
+{
+    a == b
+}

@@ -1,0 +1,106 @@
+//! Bytes by function, where padding counts for the function before it.
+
+ghost use Rattle.std.specs.Prelude.{◌+◌, ◌^◌, ◌<◌, ◌≤◌, IsTrue, OnOk};
+ghost use Rattle.pdb_owners.specs.Table.{sum_of};
+
+use crate::keyed_runs::FunctionRuns;
+use crate::named::Named;
+use crate::owner_sizes::name_functions;
+use pdb_addr2line::Context;
+use pdb_addresses::PdbInternalSectionOffset;
+use pdb_owners::{Counts, FunctionKey};
+use pdb_resolving::ModuleProvider;
+use pdb_symbols_modules::DBISectionContribution;
+use std::alloc::{AllocError, Global};
+
+/// What bytes count for: a function, and the last offset in the section at which it was found, or,
+/// of a public entry, at which it begins.
+#[derive(Clone, Copy)]
+struct Owner {
+    key: FunctionKey,
+    last: u32,
+}
+
+/// What the last of so many bytes from an offset on count for, by the key of all of them and by
+/// what the byte before them counts for. A public entry that begins no later than that goes by it.
+fn owner_after(
+    before: Option<Owner>,
+    key: Option<FunctionKey>,
+    offset: u32,
+    count: u32,
+) -> Option<Owner> {
+    let Some(key) = key else {
+        return before;
+    };
+    match (key, before) {
+        (FunctionKey::Public(_, start), Some(owner)) if start.offset <= owner.last => before,
+        (FunctionKey::Public(_, start), _) => Some(Owner {
+            key,
+            last: start.offset,
+        }),
+        (FunctionKey::Procedure(_, _), _) => Some(Owner {
+            key,
+            last: offset.saturating_add(count.saturating_sub(1)),
+        }),
+    }
+}
+
+/// Whether so many bytes more can be counted.
+fn has_room(keys: &Counts<FunctionKey>, size: u32) -> bool
+    ensures { IsTrue result → sum_of keys.now + size < 2 ^ 64 }
+{
+    keys.total() <= u64::MAX - u64::from(size)
+}
+
+/// Counts the bytes of a contribution by function. One that has no procedure counts for the last
+/// function before it in the contribution, if there is one.
+fn count_joined<P: ModuleProvider>(
+    alloc: Global,
+    context: &mut Context<'_, '_, P>,
+    contribution: &DBISectionContribution,
+    keys: &mut Counts<FunctionKey>,
+) -> Result<(), AllocError>
+    requires room { sum_of keys.old + contribution.now.size < 2 ^ 64 }
+    ensures room { OnOk result (sum_of keys.new ≤ sum_of keys.old + contribution.now.size) }
+{
+    let mut owner = None;
+    let mut done = 0;
+    while done < contribution.size {
+        let Some(offset) = contribution.offset.offset.checked_add(done) else {
+            return Ok(());
+        };
+        let place = PdbInternalSectionOffset {
+            offset,
+            section: contribution.offset.section,
+        };
+        let Ok((key, count)) = context.find_key_run(alloc, place, contribution.size - done) else {
+            return Err(AllocError);
+        };
+        owner = owner_after(owner, key, offset, count);
+        keys.add_answer(owner.map(|it| it.key), u64::from(count))?;
+        done += count;
+    }
+    Ok(())
+}
+
+/// The bytes of functions by their names, where padding counts: a byte of a contribution counts for
+/// the function that it has. One without a procedure counts for the last function before it in the
+/// contribution: a procedure, or a public entry that begins after it.
+///
+/// # Errors
+/// `AllocError` when memory runs out.
+pub fn joined_sizes<P: ModuleProvider>(
+    alloc: Global,
+    context: Context<'_, '_, P>,
+    contributions: &[DBISectionContribution],
+    undecorate: bool,
+) -> Result<Counts<Named>, AllocError> {
+    let mut runs = FunctionRuns::new(context);
+    let mut keys = Counts::new(alloc);
+    for contribution in contributions {
+        if has_room(&keys, contribution.size) {
+            count_joined(alloc, &mut runs.context, contribution, &mut keys)?;
+        }
+    }
+    name_functions(alloc, &mut runs, &keys, undecorate)
+}
