@@ -1,5 +1,5 @@
 -- Records, one piece after another.
-use Rattle.std.proofs.Common.{◌≡◌, ℕ, ◌-◌, ◌<◌, List, [], ◌∷◌, ◌++◌, Bool, true, false, cond}
+use Rattle.std.proofs.Common.{◌≡◌, ℕ, ◌-◌, ◌<◌, ◌^◌, List, [], ◌∷◌, ◌++◌, Bool, true, false, cond}
 use Rattle.std.proofs.Common.{subst}
 use Rattle.std.proofs.lemmas.Bool.{eqb-true}
 use Rattle.std.proofs.Common.{eqb, length, refl, sym, ◌∙◌, ap, arith, zero, suc}
@@ -19,6 +19,7 @@ use Rattle.pdb_symbol_files.specs.PieceRecords.{last_of, level_records, line_rec
 use Rattle.pdb_symbol_files.specs.PieceRecords.{nothing_yet, numbers_after_function}
 use Rattle.pdb_symbol_files.specs.PieceRecords.{numbers_after_inlines, piece_records, SoFar}
 use Rattle.pdb_symbol_files.specs.PieceRecords.{with_piece, without_last}
+use Rattle.pdb_symbol_files.specs.PlainAnswers.{AreCountable}
 use Rattle.pdb_symbol_files.proofs.LastPieces.{last_got}
 use Rattle.pdb_symbol_files.proofs.SameGroups.{same_records}
 
@@ -125,6 +126,25 @@ numbers_end s answers are =
     ++ numbered_texts (codes "INLINE_ORIGIN") 0 (r.numbers).origins)
     (same_records are.pieces are.some)
     ∙ sym (ap (λ (xs : List Answer). numbers_text (symbol_records xs)) are.of)
+
+-- so are the numbers the same
+numbers_same : (s : SoFar) (answers : List Answer) → AreOf s answers
+    → (without_last s).numbers ≡ (symbol_records answers).numbers
+unfolding piece_records
+numbers_same s answers are =
+    ap (λ (x : SoFar). (without_last x).numbers) are.so_far
+    ∙ ap (λ (x : SoFar). x.numbers) (ended_after are.pieces nothing_yet)
+    ∙ ap (λ (r : SymbolRecords). r.numbers) (same_records are.pieces are.some)
+    ∙ sym (ap (λ (xs : List Answer). (symbol_records xs).numbers) are.of)
+
+-- texts that were numbered are few
+pub few_numbers : (s : SoFar) (answers : List Answer) → AreOf s answers
+    → (files origins : List (List ℕ))
+    → record { files = files; origins = origins } ≡ (without_last s).numbers
+    → length files < 2 ^ 64 → length origins < 2 ^ 64 → AreCountable (symbol_records answers)
+few_numbers s answers are files origins e f o =
+    subst (λ (n : Numbers). (length n.files < 2 ^ 64) × (length n.origins < 2 ^ 64))
+    (e ∙ numbers_same s answers are) (f, o)
 
 -- the texts of the last function's records, one after the other
 pub numbers_written : (s : SoFar) (answers : List Answer) → AreOf s answers

@@ -28,7 +28,7 @@ within_after : (r : AddressRange) (x : ℕ) → r.end ≤ x → is_within x r �
 within_after r x le =
     ap (λ (b : Bool). nat_le r.start x && b) (le-ltb x r.end le) ∙ and-false (nat_le r.start x)
 
-within_there : (r : AddressRange) (x : ℕ) → r.start ≤ x → x < r.end → is_within x r ≡ true
+pub within_there : (r : AddressRange) (x : ℕ) → r.start ≤ x → x < r.end → is_within x r ≡ true
 within_there r x le lt = and_from (nat_le r.start x) (nat_lt x r.end) (le-leb r.start x le) (lt-ltb x r.end lt)
 
 -- ---- ranges in ascending order
@@ -231,7 +231,7 @@ code_by true c x top h k e = h refl
 code_by false c x top h k e = k e
 
 -- they are below 2^32 - 1
-code_below : (sections : List ImageSectionHeader) (x : ℕ) → is_code sections x ≡ true
+pub code_below : (sections : List ImageSectionHeader) (x : ℕ) → is_code sections x ≡ true
     → x < 2 ^ 32 - 1
 code_below [] x e = let bad : ⊥ = cc in absurd bad
 code_below (s ∷ sections) x e =

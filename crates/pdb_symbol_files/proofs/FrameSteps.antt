@@ -1,12 +1,15 @@
 -- The calls of frames, from the outermost one on.
 use Rattle.std.proofs.Common.{◌≡◌, ℕ, ◌+◌, ◌-◌, ◌<◌, ◌≤◌, List, [], ◌∷◌, ◌++◌, length, drop, get_or}
-use Rattle.std.proofs.Common.{refl, sym, ◌∙◌, ap, arith, suc}
+use Rattle.std.proofs.Common.{refl, sym, ◌∙◌, ap, arith, suc, subst}
+use Rattle.std.specs.List.{AllByRecursion}
 use Rattle.std.specs.Prelude.{Option, Some, slice_get, unwrap_or}
 use Rattle.std.proofs.lemmas.List.{drop_more}
 use Rattle.pdb_owners.specs.Frames.{Frame}
 use Rattle.pdb_symbol_files.specs.Frames.{call_of, calls_of, calls_over, outermost, told_of}
+use Rattle.pdb_symbol_files.specs.PlainAnswers.{IsPlainCall}
 use Rattle.pdb_symbol_files.specs.Texts.{told_text}
 use Rattle.pdb_symbol_files.specs.Told.{Call, Told}
+use Rattle.pdb_symbol_files.proofs.PlainRecords.{all_both}
 
 two_frames : (frames : List Frame) (i : ℕ) (f g : Frame) → i < length frames
     → i + 1 < length frames → f ≡ get_or frames i f → g ≡ get_or frames (i + 1) g
@@ -62,6 +65,21 @@ pub calls_first : (frames : List Frame) (left : ℕ) (calls : List Call) → lef
     → calls ≡ [] → calls ≡ calls_of (drop (left - 1) frames)
 calls_first frames left calls n none =
     none ∙ calls_start frames ∙ sym (ap (λ (k : ℕ). calls_of (drop (k - 1) frames)) n)
+
+-- ---- what calls have
+
+pub plain_first : (calls : List Call) → calls ≡ [] → AllByRecursion IsPlainCall calls
+plain_first calls none =
+    let P : List Call → Type 0 = λ (xs : List Call). AllByRecursion IsPlainCall xs in
+    subst P (sym none) tt
+
+pub plain_more : (calls more : List Call) (c : Call) → more ≡ calls ++ c ∷ []
+    → AllByRecursion IsPlainCall calls → IsPlainCall c → AllByRecursion IsPlainCall more
+plain_more calls more c e p q =
+    let P : List Call → Type 0 = λ (xs : List Call). AllByRecursion IsPlainCall xs in
+    subst P (sym e) (all_both IsPlainCall calls (c ∷ []) p (q, tt))
+
+-- ---- what is told
 
 some_same : (x y : Frame) → Some x ≡ Some y → x ≡ y
 some_same x y e = cc

@@ -27,7 +27,7 @@ use Rattle.pdb_symbol_files.specs.Told.{Answer, Call, Told}
 
 -- ---- lists
 
-all_both : {A : Type 0} (P : A → Type 0) (xs ys : List A) → AllByRecursion P xs
+pub all_both : {A : Type 0} (P : A → Type 0) (xs ys : List A) → AllByRecursion P xs
     → AllByRecursion P ys → AllByRecursion P (xs ++ ys)
 all_both P [] ys p q = q
 all_both P (x ∷ xs) ys p q = (p.0, all_both P xs ys p.1 q)
@@ -287,7 +287,10 @@ plain_function ns n f files origins p few =
 
 pub plain_records : (answers : List Answer) → MakesPlain answers
 unfolding symbol_records
-plain_records answers p few countable =
+plain_records answers readable =
+    let p = readable.plain in
+    let few = readable.few in
+    let countable = readable.countable in
     let n = length answers in
     let functions = stretches one_function answers in
     let ns = numbers_of functions in

@@ -1,10 +1,11 @@
 -- The addresses at which code may run, and what is told of them.
-use Rattle.std.specs.Prelude.{◌≡◌, ℕ, ◌+◌, ◌-◌, ◌^◌, ◌<◌, ◌≤◌, ◌++◌, ◌&&◌, Bool, true, List, []}
+use Rattle.std.specs.Prelude.{◌≡◌, ℕ, ◌+◌, ◌-◌, ◌^◌, ◌<◌, ◌≤◌, ◌++◌, ◌&&◌, ◌||◌, Bool, true, List, []}
 use Rattle.std.specs.Prelude.{◌∷◌, if◌then◌else◌, min, nat_le, nat_lt, Option, None, Some, zero}
 use Rattle.std.specs.Prelude.{suc}
-use Rattle.std.specs.List.{list_any}
+use Rattle.std.specs.List.{All, list_any}
 use Rattle.pdb_addresses.specs.declared.sections.ImageSectionHeader.{ImageSectionHeader}
 use Rattle.pdb_addresses.specs.Sections.{may_execute}
+use Rattle.pdb_owners.specs.Counts.{how_many, is_section_bound}
 use Rattle.pdb_symbol_files.specs.declared.addresses.AddressRange.{AddressRange}
 use Rattle.pdb_symbol_files.specs.Told.{Answer, Told}
 
@@ -42,6 +43,32 @@ abbrev pub AreAscending : ℕ → List AddressRange → Type 0
 AreAscending from [] = Unit {0}
 AreAscending from (r ∷ ranges) =
     (from ≤ r.start) × (r.start < r.end) × AreAscending r.end ranges
+
+-- ranges begin at addresses that pass a test
+abbrev pub BeginAt : (ℕ → Bool) → List AddressRange → Type 0
+BeginAt test ranges = All (λ r. test r.start ≡ true) ranges
+
+-- a range begins at an address that passes a test, and ends at such a one, or at the last one of 32
+-- bits
+pub record LiesBetween (test : ℕ → Bool) (r : AddressRange) : Type 0 where
+  pub starts : test r.start ≡ true
+  pub within : r.end ≤ 2 ^ 32 - 1
+  pub ends : r.end < 2 ^ 32 - 1 → test r.end ≡ true
+
+abbrev pub LieBetween : (ℕ → Bool) → List AddressRange → Type 0
+LieBetween test ranges = All (LiesBetween test) ranges
+
+-- ---- pieces, where a test says at which addresses one may begin
+
+-- a piece begins at an address at which code may run: where a section begins or ends, or the
+-- address passes
+abbrev pub begins_piece : List ImageSectionHeader → (ℕ → Bool) → ℕ → Bool
+begins_piece sections begins address =
+    is_code sections address && (is_section_bound sections address || begins address)
+
+-- how many pieces the addresses have at which code may run
+unfoldable pub pieces_of_code : List ImageSectionHeader → (ℕ → Bool) → ℕ
+pieces_of_code sections begins = how_many (begins_piece sections begins) 0 (2 ^ 32 - 1)
 
 -- ---- what is told
 

@@ -12,5 +12,6 @@ pub mod Reading
 pub mod PlainAnswers
 pub mod Output
 pub mod Code
+pub mod CodeRoads
 pub mod ToldRanges
 pub mod Heads

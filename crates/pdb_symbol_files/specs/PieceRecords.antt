@@ -1,7 +1,7 @@
 -- The same records by pieces, in the order in which the code goes over them; that they are the same
 -- is proved (`piece_records` and `symbol_records`).
 use Rattle.std.specs.Prelude.{◌≡◌, ◌==◌, ◌<◌, ℕ, ◌-◌, ◌++◌, Bool, true, false, List, [], ◌∷◌}
-use Rattle.std.specs.Prelude.{if◌then◌else◌, length, max, Option, None, Some, zero, suc}
+use Rattle.std.specs.Prelude.{if◌then◌else◌, length, max, OnOk, Option, None, Result, Some, zero, suc}
 use Rattle.std.specs.List.{flat_map, fold}
 use Rattle.std.specs.Option.{option_or, option_to_list}
 use Rattle.pdb_symbol_files.specs.Told.{Answer, answers_in, Call, Piece, continues, end_of}
@@ -9,7 +9,7 @@ use Rattle.pdb_symbol_files.specs.Spans.{Span, SourcePlace, same_place, place_of
 use Rattle.pdb_symbol_files.specs.Spans.{same_calls}
 use Rattle.pdb_symbol_files.specs.Records.{used, Numbers, LineRecord, line_record, InlineRecord}
 use Rattle.pdb_symbol_files.specs.Records.{inline_record, FunctionRecord, SymbolRecords}
-use Rattle.pdb_symbol_files.specs.RecordTexts.{function_text}
+use Rattle.pdb_symbol_files.specs.RecordTexts.{function_text, head_text, inline_text, line_text}
 
 -- ---- spans
 
@@ -36,14 +36,18 @@ abbrev pub ended : {K : Type 0} → Option (Span K) → Option (Span K) → List
 ended running None = option_to_list running
 ended running (Some s) = []
 
+-- the span that runs after a piece: the one before it, if that goes on, else the piece's own
+abbrev pub next_span : {K : Type 0} → (K → K → Bool) → Option (Span K) → Piece → Option K
+    → Option (Span K)
+next_span same running p known = option_or (longer same running p known) (begun p known)
+
 -- the spans of pieces, each of which begins where the one before ends; one may run before them
 abbrev pub spans : {K : Type 0} → (K → K → Bool) → (Piece → Option K) → Option (Span K)
     → List Piece → List (Span K)
 spans same known running [] = option_to_list running
 spans same known running (p ∷ pieces) =
     ended running (longer same running p (known p))
-    ++ spans same known
-    (option_or (longer same running p (known p)) (begun p (known p))) pieces
+    ++ spans same known (next_span same running p (known p)) pieces
 
 abbrev pub place_in : Piece → Option SourcePlace
 place_in p = place_of p.told
@@ -176,6 +180,29 @@ piece_records pieces = record {
   functions = function_records no_numbers (groups [] pieces);
 }
 
+-- ---- texts of records
+
+-- the INLINE records of a level of pieces
+abbrev pub level_text : Numbers → ℕ → List Piece → List ℕ
+level_text n level pieces = flat_map inline_text (inline_records n level (level_spans level pieces))
+
+-- those of all levels
+abbrev pub inlines_text : Numbers → List Piece → List ℕ
+inlines_text n pieces = flat_map inline_text (level_records n 0 (depth_of pieces) pieces)
+
+-- the line records of pieces
+abbrev pub lines_text : List (List ℕ) → List Piece → List ℕ
+lines_text files pieces = flat_map line_text (line_records files (line_spans pieces))
+
+-- the FUNC record of pieces, by the first one and the last one
+abbrev pub pieces_head : Piece → Piece → List ℕ
+pieces_head first last =
+    head_text first.address (end_of last - first.address) (first.told).function
+
+-- the records of a function's pieces
+abbrev pub pieces_text : Numbers → List Piece → List ℕ
+pieces_text n pieces = flat_map function_text (function_if n pieces)
+
 -- ---- one piece after another
 
 -- the numbers and the text of the functions before the last one, and the pieces of that
@@ -221,3 +248,8 @@ pub record AreOf (s : SoFar) (answers : List Answer) : Type 0 where
   pub some : AllSome pieces
   pub of : answers ≡ answers_in pieces
   pub so_far : s ≡ fold with_piece nothing_yet pieces
+
+-- records of answers are those of more of them after these were added
+abbrev pub AddsAnswers : {E : Type 0} → SoFar → SoFar → List Answer → Result (Unit {0}) E → Type 0
+AddsAnswers old new more result =
+    (answers : List Answer) → AreOf old answers → OnOk result (AreOf new (answers ++ more))

@@ -29,10 +29,15 @@ ArePlainAnswers answers = AllByRecursion IsPlainAnswer answers
 abbrev pub AreCountable : SymbolRecords → Type 0
 AreCountable r = (length (r.numbers).files < 2 ^ 64) × (length (r.numbers).origins < 2 ^ 64)
 
--- The law of plain records: those of plain answers, of 2^32 addresses at most, are plain.
+-- answers are plain and fewer than 2^64, as are the files and inlined functions of their records
+pub record AreReadable (answers : List Answer) : Type 0 where
+  pub plain : ArePlainAnswers answers
+  pub few : length answers < 2 ^ 64
+  pub countable : AreCountable (symbol_records answers)
+
+-- The law of plain records: those of such answers are plain.
 abbrev pub MakesPlain : List Answer → Type 0
-MakesPlain answers = ArePlainAnswers answers → length answers < 2 ^ 64
-    → AreCountable (symbol_records answers) → ArePlain (symbol_records answers)
+MakesPlain answers = AreReadable answers → ArePlain (symbol_records answers)
 
 -- ---- the law
 

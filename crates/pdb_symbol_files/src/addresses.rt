@@ -1,8 +1,9 @@
 //! The addresses of an image at which code may run.
 
-ghost use Rattle.std.specs.Prelude.{◌≡◌, ℕ, IfOk};
+ghost use Rattle.std.specs.Prelude.{◌≡◌, ◌+◌, ◌-◌, ◌^◌, ℕ, Bool, IfOk, min};
 ghost use Rattle.std.specs.List.Sorted.{IsNonDecreasingBy};
-ghost use Rattle.pdb_symbol_files.specs.Code.{AreAscending, HoldsCode, start_of};
+ghost use Rattle.pdb_owners.specs.Counts.{is_section_bound};
+ghost use Rattle.pdb_symbol_files.specs.Code.{AreAscending, BeginAt, HoldsCode, LieBetween, start_of};
 ghost use Rattle.pdb_symbol_files.specs.Code.{in_ranges, is_in, is_within};
 
 use pdb_addresses::ImageSectionHeader;
@@ -19,7 +20,10 @@ pub struct AddressRange {
 
 /// The addresses of a section, below the last one of 32 bits.
 fn range_of(section: &ImageSectionHeader) -> AddressRange
-    ensures { (address : ℕ) → is_within address result ≡ is_in section.now address }
+    ensures within { (address : ℕ) → is_within address result ≡ is_in section.now address }
+    ensures start { result.start ≡ section.now.virtual_address }
+    ensures end { result.end
+        ≡ min (section.now.virtual_address + section.now.virtual_size) (2 ^ 32 - 1) }
 {
     AddressRange {
         start: section.virtual_address,
@@ -32,7 +36,9 @@ fn executable_ranges(
     alloc: Global,
     sections: &[ImageSectionHeader],
 ) -> Result<Vec<AddressRange>, AllocError>
-    ensures { IfOk result (λ ranges. HoldsCode ranges.items sections.now) }
+    ensures code { IfOk result (λ ranges. HoldsCode ranges.items sections.now) }
+    ensures bounds { IfOk result
+        (λ ranges. LieBetween (is_section_bound sections.now) ranges.items) }
 {
     let mut ranges = Vec::new(alloc);
     for section in sections {
@@ -48,6 +54,8 @@ fn in_order(ranges: Vec<AddressRange>) -> Vec<AddressRange>
     ensures order { IsNonDecreasingBy start_of result.items }
     ensures same { (address : ℕ) → in_ranges result.items address
         ≡ in_ranges ranges.items address }
+    ensures bounds { (test : ℕ → Bool) → LieBetween test ranges.items
+        → LieBetween test result.items }
 {
     let mut ranges = ranges;
     ranges.sort_unstable_by_key(|range: &AddressRange| range.start);
@@ -60,6 +68,8 @@ fn disjoint(alloc: Global, ranges: &[AddressRange]) -> Result<Vec<AddressRange>,
     ensures ascending { IfOk result (λ made. AreAscending 0 made.items) }
     ensures same { IfOk result (λ made. (address : ℕ) → in_ranges made.items address
         ≡ in_ranges ranges.now address) }
+    ensures bounds { IfOk result (λ made. (test : ℕ → Bool) → LieBetween test ranges.now
+        → BeginAt test made.items) }
 {
     let mut made = Vec::new(alloc);
     let mut done = 0;
@@ -77,7 +87,8 @@ fn disjoint(alloc: Global, ranges: &[AddressRange]) -> Result<Vec<AddressRange>,
 }
 
 /// The addresses at which code may run, in ascending order: ranges that have none in common. They
-/// are those of the sections in which it may, below 0xffffffff.
+/// are those of the sections in which it may, below 0xffffffff. A range begins where a section
+/// begins or ends.
 ///
 /// # Errors
 /// `AllocError` when memory runs out.
@@ -87,6 +98,8 @@ pub fn code_ranges(
 ) -> Result<Vec<AddressRange>, AllocError>
     ensures ascending { IfOk result (λ ranges. AreAscending 0 ranges.items) }
     ensures code { IfOk result (λ ranges. HoldsCode ranges.items sections.now) }
+    ensures bounds { IfOk result
+        (λ ranges. BeginAt (is_section_bound sections.now) ranges.items) }
 {
     let ranges = in_order(executable_ranges(alloc, sections)?);
     disjoint(alloc, ranges.as_slice())

@@ -1,15 +1,15 @@
 //! FUNC records, with what is below them.
 
-ghost use Rattle.std.specs.Prelude.{◌≡◌, ◌++◌, ◌-◌, [], IfOk, OnOk, List, string_bytes};
-ghost use Rattle.std.specs.List.{flat_map};
-ghost use Rattle.pdb_symbol_files.specs.PieceRecords.{added, AreOf, function_if};
+ghost use Rattle.std.specs.Prelude.{◌≡◌, [], IfOk, OnOk, List, string_bytes};
+ghost use Rattle.pdb_symbol_files.specs.Output.{IsAppended};
+ghost use Rattle.pdb_symbol_files.specs.PieceRecords.{AddsAnswers, added, AreOf};
 ghost use Rattle.pdb_symbol_files.specs.PieceRecords.{is_more as is_more_of};
-ghost use Rattle.pdb_symbol_files.specs.PieceRecords.{numbers_after_function};
-ghost use Rattle.pdb_symbol_files.specs.PieceRecords.{without_last};
+ghost use Rattle.pdb_symbol_files.specs.PieceRecords.{numbers_after_function, pieces_head};
+ghost use Rattle.pdb_symbol_files.specs.PieceRecords.{pieces_text, without_last};
+ghost use Rattle.pdb_symbol_files.specs.PlainAnswers.{AreCountable};
 ghost use Rattle.pdb_symbol_files.specs.Records.{symbol_records};
-ghost use Rattle.pdb_symbol_files.specs.RecordTexts.{function_text, functions_text, head_text};
-ghost use Rattle.pdb_symbol_files.specs.RecordTexts.{numbers_text};
-ghost use Rattle.pdb_symbol_files.specs.Told.{Answer, answers_of, end_of};
+ghost use Rattle.pdb_symbol_files.specs.RecordTexts.{functions_text, numbers_text};
+ghost use Rattle.pdb_symbol_files.specs.Told.{Answer, answers_of};
 
 use crate::inlines::{Numbers, append_inlines};
 use crate::lines::append_lines;
@@ -57,9 +57,7 @@ fn is_more(pieces: &[Piece], piece: &Piece) -> bool
 
 /// Appends the FUNC record of pieces, by the first one and the last one.
 fn append_head(first: &Piece, last: &Piece, output: &mut String) -> Result<(), AllocError>
-    ensures { OnOk result (string_bytes output.new ≡ string_bytes output.old
-        ++ head_text (first.now).address (end_of last.now - (first.now).address)
-        ((first.now).told).function) }
+    ensures { OnOk result (IsAppended output.old output.new (pieces_head first.now last.now)) }
 {
     let end = u64::from(last.address) + u64::from(last.size);
     let size = end.saturating_sub(u64::from(first.address));
@@ -75,8 +73,8 @@ fn append_function(
     output: &mut String,
 ) -> Result<(), AllocError>
     ensures numbers { OnOk result (numbers.new ≡ numbers_after_function numbers.old pieces.now) }
-    ensures text { OnOk result (string_bytes output.new ≡ string_bytes output.old
-        ++ flat_map function_text (function_if numbers.old pieces.now)) }
+    ensures text { OnOk result
+        (IsAppended output.old output.new (pieces_text numbers.old pieces.now)) }
 {
     let (Some(first), Some(last)) = (pieces.first(), pieces.last()) else {
         return Ok(());
@@ -137,8 +135,7 @@ impl FunctionRecords {
     /// # Errors
     /// `AllocError` when memory runs out.
     pub fn add(&mut self, piece: Piece) -> Result<(), AllocError>
-        ensures { (answers : List Answer) → AreOf self.old answers
-            → OnOk result (AreOf self.new (answers ++ answers_of piece)) }
+        ensures { AddsAnswers self.old self.new (answers_of piece) result }
     {
         self.add_piece(piece)?;
         Ok(())
@@ -151,10 +148,11 @@ impl FunctionRecords {
     /// `AllocError` when memory runs out.
     pub fn finish(self, output: &mut String) -> Result<String, AllocError>
         ensures numbers { (answers : List Answer) → AreOf self answers
-            → OnOk result (string_bytes output.new ≡ string_bytes output.old
-            ++ numbers_text (symbol_records answers)) }
+            → OnOk result (IsAppended output.old output.new (numbers_text (symbol_records answers))) }
         ensures functions { (answers : List Answer) → AreOf self answers
             → IfOk result (λ text. string_bytes text ≡ functions_text (symbol_records answers)) }
+        ensures few { (answers : List Answer) → AreOf self answers
+            → OnOk result (AreCountable (symbol_records answers)) }
     {
         let mut records = self;
         records.end_function()?;

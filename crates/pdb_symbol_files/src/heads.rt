@@ -1,6 +1,7 @@
 //! The first records of a symbol file: whose it is.
 
-ghost use Rattle.std.specs.Prelude.{◌≡◌, ◌++◌, OnOk, string_bytes};
+ghost use Rattle.std.specs.Prelude.{◌≡◌, OnOk};
+ghost use Rattle.pdb_symbol_files.specs.Output.{IsAppended};
 ghost use Rattle.pdb_symbol_files.specs.Heads.{code_id_text, file_name as file_name_of};
 ghost use Rattle.pdb_symbol_files.specs.Heads.{identity_text, machine_text};
 ghost use Rattle.pdb_symbol_files.specs.Heads.{machine_name as machine_name_of};
@@ -36,16 +37,14 @@ fn file_name(path: &str) -> &str
 
 /// Appends the MODULE record up to the identity.
 fn append_machine(machine: &str, output: &mut String) -> Result<(), AllocError>
-    ensures { OnOk result (string_bytes output.new ≡ string_bytes output.old
-        ++ machine_text machine.now) }
+    ensures { OnOk result (IsAppended output.old output.new (machine_text machine.now)) }
 {
     write!(output, "MODULE windows {machine} ")
 }
 
 /// Appends the identity and the database's name, at the end of the MODULE record.
 fn append_identity(identity: &str, name: &str, output: &mut String) -> Result<(), AllocError>
-    ensures { OnOk result (string_bytes output.new ≡ string_bytes output.old
-        ++ identity_text identity.now name.now) }
+    ensures { OnOk result (IsAppended output.old output.new (identity_text identity.now name.now)) }
 {
     write!(output, "{identity} {name}\n")
 }
@@ -62,8 +61,8 @@ pub fn append_module(
     path: &str,
     output: &mut String,
 ) -> Result<(), AllocError>
-    ensures { OnOk result (string_bytes output.new ≡ string_bytes output.old
-        ++ module_text machine identity.now path.now) }
+    ensures { OnOk result (IsAppended output.old output.new
+        (module_text machine identity.now path.now)) }
 {
     let machine = machine_name(machine);
     let name = told_text(alloc, Some(file_name(path)))?;
@@ -82,8 +81,8 @@ pub fn append_code_id(
     path: &str,
     output: &mut String,
 ) -> Result<(), AllocError>
-    ensures { OnOk result (string_bytes output.new ≡ string_bytes output.old
-        ++ code_id_text time_stamp size_of_image path.now) }
+    ensures { OnOk result (IsAppended output.old output.new
+        (code_id_text time_stamp size_of_image path.now)) }
 {
     let name = told_text(alloc, Some(file_name(path)))?;
     write!(

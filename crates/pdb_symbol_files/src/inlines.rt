@@ -1,13 +1,13 @@
 //! INLINE records: inlined calls, over addresses where these and those around them are the same.
 
-ghost use Rattle.std.specs.Prelude.{◌≡◌, ◌++◌, ◌∷◌, [], None, IfOk, IfSome, OnOk, string_bytes};
-ghost use Rattle.std.specs.List.{flat_map};
-ghost use Rattle.std.specs.Option.{option_or, option_to_list};
+ghost use Rattle.std.specs.Prelude.{◌≡◌, ◌++◌, ◌∷◌, [], None, IfOk, IfSome, OnOk};
+ghost use Rattle.std.specs.Option.{option_to_list};
+ghost use Rattle.pdb_symbol_files.specs.Output.{IsAppended};
 ghost use Rattle.pdb_symbol_files.specs.CommonCalls.{common_calls as common_calls_of};
 ghost use Rattle.pdb_symbol_files.specs.CommonCalls.{common_with_last};
 ghost use Rattle.pdb_symbol_files.specs.PieceRecords.{begun as begun_by, depth_of as depth_in};
-ghost use Rattle.pdb_symbol_files.specs.PieceRecords.{ended, inline_records, is_key, level_records};
-ghost use Rattle.pdb_symbol_files.specs.PieceRecords.{level_spans, longer, numbers_after};
+ghost use Rattle.pdb_symbol_files.specs.PieceRecords.{ended, inlines_text, is_key, level_spans};
+ghost use Rattle.pdb_symbol_files.specs.PieceRecords.{level_text, longer, next_span, numbers_after};
 ghost use Rattle.pdb_symbol_files.specs.PieceRecords.{numbers_after_inlines, path_in};
 ghost use Rattle.pdb_symbol_files.specs.Records.{inline_record};
 ghost use Rattle.pdb_symbol_files.specs.RecordTexts.{call_text, inline_text, range_text};
@@ -115,8 +115,7 @@ fn advanced<'p>(
     requires { IfSome running (λ s. goes_on ≡ is_key same_calls s.key path) }
     ensures ended { option_to_list result.0
         ≡ ended running.entry (longer same_calls running.entry piece.now path.entry) }
-    ensures next { result.1 ≡ option_or (longer same_calls running.entry piece.now path.entry)
-        (begun_by piece.now path.entry) }
+    ensures next { result.1 ≡ next_span same_calls running.entry piece.now path.entry }
 {
     let Some(stretch) = running else {
         return (None, begun(piece, path));
@@ -193,16 +192,14 @@ fn append_call(
     origin: usize,
     output: &mut String,
 ) -> Result<(), AllocError>
-    ensures { OnOk result (string_bytes output.new ≡ string_bytes output.old
-        ++ call_text level line file origin) }
+    ensures { OnOk result (IsAppended output.old output.new (call_text level line file origin)) }
 {
     write!(output, "INLINE {level} {line} {file} {origin} ")
 }
 
 /// Appends the addresses of an INLINE record, so many from one on, and the line's end.
 fn append_range(address: u32, size: u64, output: &mut String) -> Result<(), AllocError>
-    ensures { OnOk result (string_bytes output.new ≡ string_bytes output.old
-        ++ range_text address size) }
+    ensures { OnOk result (IsAppended output.old output.new (range_text address size)) }
 {
     write!(output, "{address:x} {size:x}\n")
 }
@@ -215,8 +212,8 @@ fn append_inline(
     output: &mut String,
 ) -> Result<(), AllocError>
     ensures numbers { OnOk result (numbers.new ≡ numbers_after numbers.old (stretch.now ∷ [])) }
-    ensures text { OnOk result (string_bytes output.new ≡ string_bytes output.old
-        ++ inline_text (inline_record numbers.old level stretch.now)) }
+    ensures text { OnOk result
+        (IsAppended output.old output.new (inline_text (inline_record numbers.old level stretch.now))) }
 {
     let call = stretch.path.call;
     let file = numbers.files.number(call.file.as_str())?;
@@ -240,8 +237,8 @@ fn append_level(
     requires { commons.now ≡ common_with_last [] pieces.now }
     ensures numbers { OnOk result (numbers.new
         ≡ numbers_after numbers.old (level_spans level pieces.now)) }
-    ensures text { OnOk result (string_bytes output.new ≡ string_bytes output.old
-        ++ flat_map inline_text (inline_records numbers.old level (level_spans level pieces.now))) }
+    ensures text { OnOk result
+        (IsAppended output.old output.new (level_text numbers.old level pieces.now)) }
 {
     let stretches = stretches_of(alloc, pieces, commons, level)?;
     for stretch in stretches.iter() {
@@ -274,8 +271,8 @@ pub(crate) fn append_inlines(
     output: &mut String,
 ) -> Result<(), AllocError>
     ensures numbers { OnOk result (numbers.new ≡ numbers_after_inlines numbers.old pieces.now) }
-    ensures text { OnOk result (string_bytes output.new ≡ string_bytes output.old
-        ++ flat_map inline_text (level_records numbers.old 0 (depth_in pieces.now) pieces.now)) }
+    ensures text { OnOk result
+        (IsAppended output.old output.new (inlines_text numbers.old pieces.now)) }
 {
     let depth = levels_of(pieces);
     let commons = commons_of(alloc, pieces)?;

@@ -1,14 +1,14 @@
 //! The laws of symbol files: functions that do nothing, whose contracts are proved.
 
-ghost use Rattle.std.specs.Prelude.{ℕ, List, ◌<◌, ◌^◌, length};
-ghost use Rattle.std.specs.Str.{IsUtf8};
+ghost use Rattle.std.specs.Prelude.{ℕ, List, Option};
+ghost use Rattle.pdb_addresses.specs.declared.sections.ImageSectionHeader.{ImageSectionHeader};
+ghost use Rattle.pdb_symbol_files.specs.CodeRoads.{HasCodeRoads, records_of_code};
 ghost use Rattle.pdb_symbol_files.specs.Lookup.{HasTwoRoads, IsAscending};
-ghost use Rattle.pdb_symbol_files.specs.PlainAnswers.{ArePlainAnswers, AreCountable, HasTextRoads};
-ghost use Rattle.pdb_symbol_files.specs.PlainAnswers.{MakesPlain};
+ghost use Rattle.pdb_symbol_files.specs.PlainAnswers.{AreReadable, HasTextRoads, MakesPlain};
 ghost use Rattle.pdb_symbol_files.specs.Reading.{ArePlain, IsPlain, ReadsBack};
 ghost use Rattle.pdb_symbol_files.specs.Records.{SymbolRecords, symbol_records};
 ghost use Rattle.pdb_symbol_files.specs.Texts.{text_of};
-ghost use Rattle.pdb_symbol_files.specs.Told.{Answer};
+ghost use Rattle.pdb_symbol_files.specs.Told.{Answer, Told};
 
 /// The law of two roads: for each address, what a consumer of symbol files says by the records is
 /// what is told of it, innermost frame first; nothing where nothing is told. The consumer finds the
@@ -27,21 +27,28 @@ pub fn reads_back()
 
 /// No name or file that is told has a control character, a line break among them.
 pub fn plain_texts()
-    ensures { (text : List ℕ) → IsUtf8 text → IsPlain (text_of text) }
+    ensures { (text : List ℕ) → IsPlain (text_of text) }
 {}
 
 /// The law of plain records: where no name or file that is told has a control character, and fewer
 /// than 2^64 files and inlined functions are told, no record has either; so its text reads back.
 pub fn plain_records()
     ensures plain { (answers : List Answer) → MakesPlain answers }
-    ensures back { (answers : List Answer) → ArePlainAnswers answers → length answers < 2 ^ 64
-        → AreCountable (symbol_records answers) → ReadsBack (symbol_records answers) }
+    ensures back { (answers : List Answer) → AreReadable answers
+        → ReadsBack (symbol_records answers) }
 {}
 
 /// The law of two roads, by the text: for each address, what a consumer says that reads the text of
 /// the records is what is told of it, innermost frame first; nothing where nothing is told.
 pub fn text_roads()
-    ensures { (answers : List Answer) → IsAscending 0 answers → ArePlainAnswers answers
-        → length answers < 2 ^ 64 → AreCountable (symbol_records answers)
+    ensures { (answers : List Answer) → IsAscending 0 answers → AreReadable answers
         → HasTextRoads answers }
+{}
+
+/// The law of two roads, of the addresses at which code may run: a consumer that reads the text of
+/// their records says of each address what is told of it, and nothing of any other, if the text
+/// reads back. That of [`append_functions`](crate::append_functions) does.
+pub fn code_roads()
+    ensures { (sections : List ImageSectionHeader) (told : ℕ → Option Told)
+        → ReadsBack (records_of_code sections told) → HasCodeRoads sections told }
 {}

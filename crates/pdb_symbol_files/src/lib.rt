@@ -7,7 +7,7 @@
 //! | make the records of a module's functions | [`FunctionRecords`] |
 //! | make those of all addresses at which code may run | [`append_functions`], by a [`ToldRuns`] |
 //! | make the lines before them | [`append_module`], [`append_code_id`] |
-//! | write a text | [`SymbolsText::write`], [`write_text`], [`write_bytes`] |
+//! | write a text | [`write_text`], [`write_bytes`] |
 //!
 //! The laws are [`laws::two_roads`], that looking an address up in the records gives what is told
 //! of it, and [`laws::reads_back`], that the text of records reads as these.
@@ -29,7 +29,7 @@ mod told_runs;
 pub use addresses::{AddressRange, code_ranges, size_of_all};
 pub use functions::FunctionRecords;
 pub use heads::{append_code_id, append_module};
-pub use output::{SymbolsText, write_bytes, write_text};
+pub use output::{write_bytes, write_text};
 pub use pieces::{Call, Piece, Told};
 pub use texts::told_text;
 pub use told::told_of;

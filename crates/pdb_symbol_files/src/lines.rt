@@ -1,10 +1,11 @@
 //! Line records: where the innermost frame stands, over addresses where that is the same.
 
-ghost use Rattle.std.specs.Prelude.{◌≡◌, ◌++◌, ◌∷◌, [], None, IfOk, OnOk, string_bytes};
-ghost use Rattle.std.specs.List.{flat_map};
-ghost use Rattle.std.specs.Option.{option_or, option_to_list};
+ghost use Rattle.std.specs.Prelude.{◌≡◌, ◌++◌, ◌∷◌, [], None, IfOk, OnOk};
+ghost use Rattle.std.specs.Option.{option_to_list};
+ghost use Rattle.pdb_symbol_files.specs.Output.{IsAppended};
 ghost use Rattle.pdb_symbol_files.specs.PieceRecords.{begun as begun_by, ended, files_after};
-ghost use Rattle.pdb_symbol_files.specs.PieceRecords.{is_key, line_records, line_spans, longer};
+ghost use Rattle.pdb_symbol_files.specs.PieceRecords.{is_key, line_spans, lines_text, longer};
+ghost use Rattle.pdb_symbol_files.specs.PieceRecords.{next_span};
 ghost use Rattle.pdb_symbol_files.specs.Records.{line_record};
 ghost use Rattle.pdb_symbol_files.specs.RecordTexts.{line_text};
 ghost use Rattle.pdb_symbol_files.specs.Spans.{place_of as place_told, same_place};
@@ -97,8 +98,7 @@ fn advanced<'p>(
 ) -> (Option<LineStretch<'p>>, Option<LineStretch<'p>>)
     ensures ended { option_to_list result.0
         ≡ ended running.entry (longer same_place running.entry piece.now place.entry) }
-    ensures next { result.1 ≡ option_or (longer same_place running.entry piece.now place.entry)
-        (begun_by piece.now place.entry) }
+    ensures next { result.1 ≡ next_span same_place running.entry piece.now place.entry }
 {
     let Some(stretch) = running else {
         return (None, begun(piece, place));
@@ -152,8 +152,8 @@ fn append_line(
     output: &mut String,
 ) -> Result<(), AllocError>
     ensures files { OnOk result (files.new ≡ files_after files.old (stretch.now ∷ [])) }
-    ensures text { OnOk result (string_bytes output.new ≡ string_bytes output.old
-        ++ line_text (line_record files.old stretch.now)) }
+    ensures text { OnOk result
+        (IsAppended output.old output.new (line_text (line_record files.old stretch.now))) }
 {
     let file = files.number(stretch.place.file)?;
     let (address, line) = (stretch.start, stretch.place.line);
@@ -173,8 +173,8 @@ pub(crate) fn append_lines(
     output: &mut String,
 ) -> Result<(), AllocError>
     ensures files { OnOk result (files.new ≡ files_after files.old (line_spans pieces.now)) }
-    ensures text { OnOk result (string_bytes output.new ≡ string_bytes output.old
-        ++ flat_map line_text (line_records files.old (line_spans pieces.now))) }
+    ensures text { OnOk result
+        (IsAppended output.old output.new (lines_text files.old pieces.now)) }
 {
     let stretches = stretches_of(alloc, pieces)?;
     for stretch in stretches.iter() {

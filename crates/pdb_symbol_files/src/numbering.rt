@@ -1,6 +1,7 @@
 //! The numbers of files and of inlined functions.
 
-ghost use Rattle.std.specs.Prelude.{◌≡◌, ◌++◌, [], IfOk, OnOk, string_bytes};
+ghost use Rattle.std.specs.Prelude.{◌≡◌, ◌<◌, ◌^◌, [], IfOk, length, OnOk};
+ghost use Rattle.pdb_symbol_files.specs.Output.{IsAppended};
 ghost use Rattle.pdb_symbol_files.specs.Records.{number_of, used};
 ghost use Rattle.pdb_symbol_files.specs.RecordTexts.{numbered_text, numbered_texts};
 
@@ -37,8 +38,8 @@ fn append_numbered(
     text: &str,
     output: &mut String,
 ) -> Result<(), AllocError>
-    ensures { OnOk result (string_bytes output.new ≡ string_bytes output.old
-        ++ numbered_text word.now number text.now) }
+    ensures { OnOk result (IsAppended output.old output.new
+        (numbered_text word.now number text.now)) }
 {
     write!(output, "{word} {number} {text}\n")
 }
@@ -77,8 +78,9 @@ impl Numbering {
     /// `AllocError` when memory runs out.
     #[tactic(auto, using(crate::proofs::NumberSteps::record_more, crate::proofs::NumberSteps::record_none, crate::proofs::NumberSteps::record_end))]
     pub(crate) fn append_records(&self, word: &str, output: &mut String) -> Result<(), AllocError>
-        ensures { OnOk result (string_bytes output.new ≡ string_bytes output.old
-            ++ numbered_texts word.now 0 self.now) }
+        ensures text { OnOk result (IsAppended output.old output.new
+            (numbered_texts word.now 0 self.now)) }
+        ensures few { length self.now < 2 ^ 64 }
     {
         for number in 0..self.texts.len() {
             let Some(text) = self.texts.get_index(number) else {

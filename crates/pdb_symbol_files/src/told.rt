@@ -1,8 +1,10 @@
 //! What a symbol file says of an answer.
 
-ghost use Rattle.std.specs.Prelude.{◌≡◌, IfOk, string_bytes};
+ghost use Rattle.std.specs.Prelude.{◌≡◌, ◌<◌, ◌^◌, IfOk, IfSome, length, string_bytes};
+ghost use Rattle.std.specs.List.{AllByRecursion};
 ghost use Rattle.pdb_symbol_files.specs.Frames.{call_of as call_in, calls_of as calls_in};
 ghost use Rattle.pdb_symbol_files.specs.Frames.{told_of as told_in};
+ghost use Rattle.pdb_symbol_files.specs.PlainAnswers.{IsPlainCall, IsPlainTold};
 ghost use Rattle.pdb_symbol_files.specs.Texts.{told_text as told_text_of};
 
 use crate::pieces::{Call, Told};
@@ -34,7 +36,8 @@ fn file_of(alloc: Global, frame: &Frame<'_>) -> Result<String, AllocError>
 
 /// The call by which a frame's function called that of another, inlined.
 fn call_of(alloc: Global, caller: &Frame<'_>, callee: &Frame<'_>) -> Result<Call, AllocError>
-    ensures { IfOk result (λ call. call ≡ call_in caller.now callee.now) }
+    ensures is { IfOk result (λ call. call ≡ call_in caller.now callee.now) }
+    ensures plain { IfOk result IsPlainCall }
 {
     let file = file_of(alloc, caller)?;
     let callee = name_of(alloc, callee)?;
@@ -46,9 +49,11 @@ fn call_of(alloc: Global, caller: &Frame<'_>, callee: &Frame<'_>) -> Result<Call
 }
 
 /// The inlined calls of frames, innermost frame first; the outermost call comes first.
-#[tactic(auto, using(crate::proofs::FrameSteps::calls_first, crate::proofs::FrameSteps::calls_more, crate::proofs::FrameSteps::calls_end))]
+#[tactic(auto, using(crate::proofs::FrameSteps::calls_first, crate::proofs::FrameSteps::calls_more, crate::proofs::FrameSteps::calls_end, crate::proofs::FrameSteps::plain_first, crate::proofs::FrameSteps::plain_more))]
 fn calls_of(alloc: Global, frames: &[Frame<'_>]) -> Result<Vec<Call>, AllocError>
-    ensures { IfOk result (λ calls. calls.items ≡ calls_in frames.now) }
+    ensures are { IfOk result (λ calls. calls.items ≡ calls_in frames.now) }
+    ensures plain { IfOk result (λ calls. AllByRecursion IsPlainCall calls.items) }
+    ensures few { IfOk result (λ calls. length calls.items < 2 ^ 64) }
 {
     let mut calls = Vec::new(alloc);
     let mut left = frames.len();
@@ -60,7 +65,8 @@ fn calls_of(alloc: Global, frames: &[Frame<'_>]) -> Result<Vec<Call>, AllocError
 }
 
 /// What a symbol file says of frames, innermost first, in a function that begins at an address, if
-/// that is known; `None` of no frames.
+/// that is known; `None` of no frames. No name or file has a control character, a line break among
+/// them.
 ///
 /// # Errors
 /// `AllocError` when memory runs out.
@@ -69,7 +75,8 @@ pub fn told_of(
     start: Option<u32>,
     frames: &[Frame<'_>],
 ) -> Result<Option<Told>, AllocError>
-    ensures { IfOk result (λ told. told ≡ told_in start frames.now) }
+    ensures is { IfOk result (λ told. told ≡ told_in start frames.now) }
+    ensures plain { IfOk result (λ told. IfSome told IsPlainTold) }
 {
     let (Some(innermost), Some(outermost)) = (frames.first(), frames.last()) else {
         return Ok(None);

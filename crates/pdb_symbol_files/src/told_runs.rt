@@ -1,14 +1,19 @@
 //! What is told of the addresses of an image, run by run.
 
-ghost use Rattle.std.specs.Prelude.{◌≡◌, ◌++◌, ◌-◌, ◌+◌, ◌<◌, ◌≤◌, [], ℕ, IfOk, List, OnOk, Option};
+ghost use Rattle.std.specs.Prelude.{◌≡◌, ◌+◌, ◌*◌, ◌<◌, ◌≤◌, [], ℕ, Bool, IfOk, IfSome, List, OnOk};
+ghost use Rattle.std.specs.Prelude.{Option};
 ghost use Rattle.std.specs.Prelude.{string_bytes};
-ghost use Rattle.pdb_symbol_files.specs.Code.{AreAscending, answers_along, answers_of_code};
-ghost use Rattle.pdb_symbol_files.specs.Code.{in_ranges};
-ghost use Rattle.pdb_symbol_files.specs.PieceRecords.{AreOf};
-ghost use Rattle.pdb_symbol_files.specs.Records.{symbol_records};
+ghost use Rattle.pdb_symbol_files.specs.Code.{AreAscending, answers_along, in_ranges};
+ghost use Rattle.pdb_symbol_files.specs.Code.{pieces_of_code};
+ghost use Rattle.pdb_symbol_files.specs.CodeRoads.{records_of_code};
+ghost use Rattle.pdb_symbol_files.specs.Output.{IsAppended};
+ghost use Rattle.pdb_symbol_files.specs.PieceRecords.{AddsAnswers, AreOf};
+ghost use Rattle.pdb_symbol_files.specs.PlainAnswers.{ArePlainAnswers, IsPlainTold};
+ghost use Rattle.pdb_symbol_files.specs.Reading.{ReadsBack};
 ghost use Rattle.pdb_symbol_files.specs.RecordTexts.{functions_text, numbers_text};
-ghost use Rattle.pdb_symbol_files.specs.Told.{Answer, Told as ToldOf};
-ghost use Rattle.pdb_symbol_files.specs.ToldRanges.{answers_of_ranges};
+ghost use Rattle.pdb_symbol_files.specs.Told.{Told as ToldOf};
+ghost use Rattle.pdb_symbol_files.specs.ToldRanges.{answers_of_range, answers_of_ranges, EndsPiece};
+ghost use Rattle.pdb_symbol_files.specs.ToldRanges.{pieces_of_range, pieces_of_ranges, TellsRun};
 
 use crate::addresses::{AddressRange, code_ranges, size_of_all};
 use crate::functions::FunctionRecords;
@@ -50,6 +55,10 @@ pub trait ToldRuns {
     ghost told: { Self → ℕ → Option ToldOf };
     // the bytes of the file by which it is told
     ghost file: { Self → List ℕ };
+    // at which addresses a piece may begin: something else may be told than of the one before
+    ghost begins: { Self → ℕ → Bool };
+    // how often something was looked up
+    ghost lookups: { Self → ℕ };
 
     /// Makes ready for so many addresses, before the first of them is asked for. Nothing that is
     /// told depends on it. An implementation that doesn't need it leaves it out.
@@ -57,6 +66,8 @@ pub trait ToldRuns {
         ensures grows { known self.new → known self.old }
         ensures same { told self.new ≡ told self.old }
         ensures file { file self.new ≡ file self.old }
+        ensures begins { begins self.new ≡ begins self.old }
+        ensures lookups { lookups self.new ≡ lookups self.old }
     {}
 
     /// What is told of an address, and over how many from there on, before `end`, the same is.
@@ -67,19 +78,24 @@ pub trait ToldRuns {
         requires { address < end }
         ensures some { IfOk result (λ run. 1 ≤ run.count) }
         ensures within { IfOk result (λ run. address + run.count ≤ end) }
-        ensures told { known self.new → IfOk result (λ run. (a : ℕ) → address ≤ a
-            → a < address + run.count → told self.old a ≡ run.told) }
+        ensures told { known self.new → IfOk result (TellsRun (told self.old) address) }
+        // No name or file has a control character, a line break among them.
+        ensures plain { IfOk result (λ run. IfSome run.told IsPlainTold) }
         ensures grows { known self.new → known self.old }
         // Asking changes nothing that is told.
         ensures same { told self.new ≡ told self.old }
-        ensures file { file self.new ≡ file self.old };
+        ensures file { file self.new ≡ file self.old }
+        // A run ends where the next piece may begin, so that runs are few.
+        ensures ends { known self.new → IfOk result (EndsPiece (begins self.old) address end) }
+        ensures begins { begins self.new ≡ begins self.old }
+        // The function and the frames are looked up, once for all of the run.
+        ensures lookups { OnOk result (lookups self.new ≤ lookups self.old + 2) };
 }
 
 /// Adds a run from an address on.
 fn add_run(records: &mut FunctionRecords, address: u32, run: ToldRun) -> Result<(), AllocError>
-    ensures { (told : ℕ → Option ToldOf) → ((a : ℕ) → address ≤ a → a < address + run.count
-        → told a ≡ run.told) → (answers : List Answer) → AreOf records.old answers
-        → OnOk result (AreOf records.new (answers ++ answers_along told address run.count)) }
+    ensures { (told : ℕ → Option ToldOf) → TellsRun told address run
+        → AddsAnswers records.old records.new (answers_along told address run.count) result }
 {
     let ToldRun { told, count } = run;
     match told {
@@ -102,9 +118,13 @@ fn add_range<R: ToldRuns>(
     ensures grows { R.known runs.new → R.known runs.old }
     ensures same { R.told runs.new ≡ R.told runs.old }
     ensures file { R.file runs.new ≡ R.file runs.old }
-    ensures added { R.known runs.new → (answers : List Answer) → AreOf records.old answers
-        → OnOk result (AreOf records.new (answers
-        ++ answers_along (R.told runs.old) range.start (range.end - range.start))) }
+    ensures added { R.known runs.new
+        → AddsAnswers records.old records.new (answers_of_range (R.told runs.old) range) result }
+    ensures plain { R.known runs.new
+        → OnOk result (ArePlainAnswers (answers_of_range (R.told runs.old) range)) }
+    ensures begins { R.begins runs.new ≡ R.begins runs.old }
+    ensures lookups { R.known runs.new → OnOk result (R.lookups runs.new
+        ≤ R.lookups runs.old + 2 * pieces_of_range (R.begins runs.old) range) }
 {
     let mut address = range.start;
     while address < range.end {
@@ -127,6 +147,11 @@ fn records_of_ranges<R: ToldRuns>(
     ensures file { R.file runs.new ≡ R.file runs.old }
     ensures of { R.known runs.new → IfOk result
         (λ records. AreOf records (answers_of_ranges (R.told runs.old) ranges.now)) }
+    ensures plain { R.known runs.new
+        → OnOk result (ArePlainAnswers (answers_of_ranges (R.told runs.old) ranges.now)) }
+    ensures begins { R.begins runs.new ≡ R.begins runs.old }
+    ensures lookups { R.known runs.new → OnOk result (R.lookups runs.new
+        ≤ R.lookups runs.old + 2 * pieces_of_ranges (R.begins runs.old) ranges.now) }
 {
     let mut records = FunctionRecords::new(alloc);
     for range in ranges {
@@ -137,7 +162,9 @@ fn records_of_ranges<R: ToldRuns>(
 
 /// Appends the FILE and INLINE_ORIGIN records of what is told of the addresses at which code may
 /// run, by the image's section headers, and returns the text of the FUNC records with what is below
-/// them.
+/// them. A consumer reads both texts back as these records; so it says of each address what is told
+/// of it, and nothing of any other, by the law [`code_roads`](crate::laws::code_roads). Places are
+/// looked up at most twice for each piece of these addresses.
 ///
 /// # Errors
 /// `File` where the database's file couldn't be read; `OutOfMemory`.
@@ -150,11 +177,15 @@ pub fn append_functions<R: ToldRuns>(
     ensures grows { R.known runs.new → R.known runs.old }
     ensures same { R.told runs.new ≡ R.told runs.old }
     ensures file { R.file runs.new ≡ R.file runs.old }
-    ensures numbers { R.known runs.new → OnOk result (string_bytes output.new
-        ≡ string_bytes output.old
-        ++ numbers_text (symbol_records (answers_of_code sections.now (R.told runs.old)))) }
+    ensures numbers { R.known runs.new → OnOk result (IsAppended output.old output.new
+        (numbers_text (records_of_code sections.now (R.told runs.old)))) }
     ensures functions { R.known runs.new → IfOk result (λ text. string_bytes text
-        ≡ functions_text (symbol_records (answers_of_code sections.now (R.told runs.old)))) }
+        ≡ functions_text (records_of_code sections.now (R.told runs.old))) }
+    ensures back { R.known runs.new
+        → OnOk result (ReadsBack (records_of_code sections.now (R.told runs.old))) }
+    ensures begins { R.begins runs.new ≡ R.begins runs.old }
+    ensures lookups { R.known runs.new → OnOk result (R.lookups runs.new
+        ≤ R.lookups runs.old + 2 * pieces_of_code sections.now (R.begins runs.old)) }
 {
     let ranges = code_ranges(alloc, sections)?;
     runs.prepare(size_of_all(ranges.as_slice()));

@@ -4,3 +4,5 @@ pub mod WritingSteps
 pub mod NamedSteps
 pub mod HeadSteps
 pub mod MakingSteps
+pub mod RenamedReads
+pub mod FileRoads

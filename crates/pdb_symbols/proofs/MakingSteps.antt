@@ -1,6 +1,6 @@
 -- Symbol files that are made, and how that fails.
 use Rattle.std.proofs.Common.{◌≡◌, ◌∙◌, ℕ, List, [], ◌∷◌, ◌++◌, refl, sym, ap, subst, inl, inr, Bool}
-use Rattle.std.proofs.Common.{true, false, append_assoc, append-nil, ◌+◌, ◌<◌, suc, arith, length, get_or}
+use Rattle.std.proofs.Common.{true, false, append_assoc, append-nil, ◌+◌, ◌*◌, ◌<◌, ◌≤◌, suc, arith, length, get_or}
 use Rattle.std.proofs.Common.{length-append, get_or-append-add}
 use Rattle.std.specs.Fmt.{decimal}
 use Rattle.std.specs.Prelude.{codes, ◌⊎◌}
@@ -11,7 +11,7 @@ use Rattle.std.specs.Prelude.{Option, None, Some, Result, Ok, Err, IfErr, IfOk, 
 use Rattle.std.specs.Io.KnownBytes.{Appends}
 use Rattle.std.proofs.KnownBytes.{Appends-nil}
 use Rattle.pdb_addresses.specs.declared.sections.ImageSectionHeader.{ImageSectionHeader}
-use Rattle.pdb_databases.specs.Identity.{identity_in}
+use Rattle.pdb_addr2line.specs.Identity.{identity_in}
 use Rattle.pdb_image.specs.Image.{Image}
 use Rattle.pdb_image.specs.declared.identity.PdbIdentity.{PdbIdentity}
 use Rattle.pdb_loading.specs.Held.{Held}
@@ -22,7 +22,7 @@ use Rattle.pdb_loading.specs.declared.load_fault.LoadFault.{LoadFault}
 use Rattle.pdb_loading.specs.declared.load_fault.LoadFault.TheVariants as faults
 use Rattle.pdb_loading.specs.declared.order.ContributionOrder.{ContributionOrder}
 use Rattle.pdb_loading.specs.declared.order.ContributionOrder.TheVariants.{Any}
-use Rattle.pdb_symbol_files.specs.Code.{answers_of_code}
+use Rattle.pdb_symbol_files.specs.Code.{answers_of_code, pieces_of_code}
 use Rattle.pdb_symbol_files.specs.Output.{AppendsFront}
 use Rattle.pdb_symbol_files.specs.Heads.{eight_digits, file_name, identity_text, machine_name, machine_text}
 use Rattle.pdb_symbol_files.specs.Heads.{module_text}
@@ -30,6 +30,7 @@ use Rattle.pdb_symbol_files.specs.RecordTexts.{hexadecimal, numbered_text, numbe
 use Rattle.pdb_symbol_files.specs.RecordTexts.{numbers_text}
 use Rattle.pdb_symbol_files.specs.Texts.{told_text}
 use Rattle.pdb_symbol_files.specs.Records.{SymbolRecords, symbol_records}
+use Rattle.pdb_symbols.specs.Lookups.{AreFewLookups, begins_named, pieces_by, pieces_in}
 use Rattle.pdb_symbols.specs.NamedLines.{IsLineOf, IsRenamed, IsUnbroken, Line, is_in_line}
 use Rattle.pdb_symbols.specs.NamedLines.{named_lines, stored_lines}
 use Rattle.pdb_symbols.specs.UnwindingText.{text_of_image}
@@ -103,6 +104,41 @@ made_ok asked bytes order file h i image first head functions sections is x name
         unwinding = refl;
       },
     )
+
+-- ---- lookups
+
+-- those by what is held of a file are few
+pub few_lookups : (order : ContributionOrder) (file : List ℕ) (h : Held)
+    (sections : List ImageSectionHeader) (before now lookups : ℕ) → order ≡ Any
+    → IsLoadedWith order file h → sections ≡ h.tables.map.image → before ≡ 0 → lookups ≡ now
+    → now ≤ before + 2 * pieces_of_code sections (begins_named 23 order (streams file))
+    → AreFewLookups file lookups
+unfolding pieces_in
+few_lookups order file h sections before now lookups is x held none same few =
+    let s = streams file in
+    let pieces : pieces_of_code sections (begins_named 23 order s) ≡ pieces_in s
+    = ap (λ (hs : List ImageSectionHeader). pieces_of_code hs (begins_named 23 order s)) held
+    ∙ ap (λ (o : ContributionOrder). pieces_of_code h.tables.map.image (begins_named 23 o s)) is
+    ∙ sym (ap (pieces_by s) (loaded_in order file h is x)) in
+    omega (arith, pieces, none, same, few)
+
+-- the same by what was described
+pub few_described : (asked : Asked) (bytes : Option (List ℕ)) (order : ContributionOrder)
+    (flags : ℕ) (contents file : List ℕ) (i : PdbIdentity) (image : Option Image)
+    (first : List ℕ) (headers sections : List ImageSectionHeader) (lookups : ℕ) → order ≡ Any
+    → flags ≡ 23 → contents ≡ file → headers ≡ sections
+    → IsDescribed asked bytes file first sections image i
+    → lookups ≤ 0 + 2 * pieces_of_code headers (begins_named flags order (streams contents))
+    → AreFewLookups file lookups
+few_described asked bytes order flags contents file i image first headers sections lookups any shown same these d few =
+    let most : ℕ → ContributionOrder → List ℕ → Type 0
+    = λ (n : ℕ) (o : ContributionOrder) (x : List ℕ).
+    lookups ≤ 0 + 2 * pieces_of_code headers (begins_named n o (streams x)) in
+    few_lookups Any file d.held headers 0 lookups lookups refl d.loaded (these ∙ d.sections_are)
+    refl refl
+    (subst (λ (x : List ℕ). most 23 Any x) same
+    (subst (λ (o : ContributionOrder). most 23 o contents) any
+    (subst (λ (n : ℕ). most n order contents) shown few)))
 
 -- ---- not made
 
@@ -193,14 +229,14 @@ Ends text = (front : List ℕ) × (text ≡ front ++ 10 ∷ [])
 abbrev pub IsEnded : List ℕ → Type 0
 IsEnded text = (text ≡ []) ⊎ Ends text
 
-ends_line : (xs : List ℕ) → Ends (xs ++ 10 ∷ [])
+pub ends_line : (xs : List ℕ) → Ends (xs ++ 10 ∷ [])
 ends_line xs = (xs, refl)
 
-ends_after : (xs ys : List ℕ) → Ends ys → Ends (xs ++ ys)
+pub ends_after : (xs ys : List ℕ) → Ends ys → Ends (xs ++ ys)
 ends_after xs ys (front, e) =
     (xs ++ front, ap (λ (l : List ℕ). xs ++ l) e ∙ sym (append_assoc xs front (10 ∷ [])))
 
-ended_both : (xs ys : List ℕ) → IsEnded xs → IsEnded ys → IsEnded (xs ++ ys)
+pub ended_both : (xs ys : List ℕ) → IsEnded xs → IsEnded ys → IsEnded (xs ++ ys)
 ended_both xs ys x (inl none) =
     subst IsEnded (sym (ap (λ (l : List ℕ). xs ++ l) none ∙ append-nil xs)) x
 ended_both xs ys x (inr y) = inr (ends_after xs ys y)
@@ -213,7 +249,7 @@ numbered_ended word n (t ∷ texts) =
     (inr (ends_line (word ++ codes " " ++ decimal n ++ codes " " ++ t)))
     (numbered_ended word (n + 1) texts)
 
-numbers_ended : (r : SymbolRecords) → IsEnded (numbers_text r)
+pub numbers_ended : (r : SymbolRecords) → IsEnded (numbers_text r)
 unfolding numbers_text
 numbers_ended r =
     ended_both (numbered_texts (codes "FILE") 0 (r.numbers).files)
@@ -228,7 +264,7 @@ image_ended (Some image) (Some path) =
     inr (ends_line (codes "INFO CODE_ID " ++ eight_digits image.time_stamp
     ++ hexadecimal image.size_of_image ++ codes " " ++ told_text (Some (file_name path))))
 
-first_ended : (asked : Asked) (machine : ℕ) (i : PdbIdentity) (image : Option Image)
+pub first_ended : (asked : Asked) (machine : ℕ) (i : PdbIdentity) (image : Option Image)
     → IsEnded (first_records asked machine i image)
 first_ended asked machine i image =
     ended_both (module_text machine (identity_name i) asked.path)
@@ -238,12 +274,12 @@ first_ended asked machine i image =
     (ends_line (identity_name i ++ codes " " ++ told_text (Some (file_name asked.path))))))
     (image_ended image asked.image_path)
 
-step : {A B F : Type 0} (r : Result A F) (next : A → Result B F) (y : B) → (r >>= next) ≡ Ok y
+pub step : {A B F : Type 0} (r : Result A F) (next : A → Result B F) (y : B) → (r >>= next) ≡ Ok y
     → (x : A) × (r ≡ Ok x) × (next x ≡ Ok y)
 step (Ok x) next y h = (x, refl, h)
 step (Err e) next y h = let bad : ⊥ = cc in absurd bad
 
-same_file : (f g : SymbolFile) → (let r : Result SymbolFile Refusal = Ok f in r) ≡ Ok g → f ≡ g
+pub same_file : (f g : SymbolFile) → (let r : Result SymbolFile Refusal = Ok f in r) ≡ Ok g → f ≡ g
 same_file f g e = cc
 
 -- a symbol file's first records are lines
@@ -263,7 +299,7 @@ few : (n : ℕ) → n < suc n
 few n = omega arith
 
 -- what comes after the last newline of an ended text is nothing
-rest_none : (text x rest : List ℕ) → text ≡ x ++ rest → IsEnded text → IsUnbroken rest → rest ≡ []
+pub rest_none : (text x rest : List ℕ) → text ≡ x ++ rest → IsEnded text → IsUnbroken rest → rest ≡ []
 rest_none text x [] e ended u = refl
 rest_none text x (r ∷ rs) e (inl none) u =
     absurd (omega (arith, ap length (sym e ∙ none), length-append x (r ∷ rs)))
@@ -325,11 +361,11 @@ parts_named : (demangle : Bool) (f : SymbolFile) (head functions named : List �
     → IsNamedInParts demangle head functions named → IsNamedText demangle (text_of f) named
 parts_named demangle f head functions named has ended parts =
     let text : head ++ functions ≡ text_of f
-    = ap (λ (l : List ℕ). l ++ functions) has.0
+    = ap (λ (l : List ℕ). l ++ functions) has.numbers
     ∙ append_assoc f.first (numbers_text f.records) functions
-    ∙ ap (λ (l : List ℕ). f.first ++ (numbers_text f.records ++ l)) has.1 in
+    ∙ ap (λ (l : List ℕ). f.first ++ (numbers_text f.records ++ l)) has.functions_are in
     let all_ended : IsEnded head
-    = subst IsEnded (sym has.0)
+    = subst IsEnded (sym has.numbers)
     (ended_both f.first (numbers_text f.records) ended (numbers_ended f.records)) in
     let both : IsNamedText demangle (head ++ functions) (parts.first ++ parts.second)
     = named_both demangle head functions parts.first parts.second all_ended parts.first_is
@@ -356,6 +392,7 @@ ends_as reads demangle asked bytes s head functions image old new (Ok done) (f, 
   record {
     named = named;
     is = parts_named demangle f head functions named made.records (file_ended asked bytes s f is) parts;
+    back = made.records.back;
     appends = subst (λ (l : List ℕ). Appends old new (named ++ l)) made.unwinding out;
   },
 )

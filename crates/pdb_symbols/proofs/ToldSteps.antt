@@ -1,12 +1,14 @@
 -- What is told of places.
 use Rattle.std.proofs.Common.{◌≡◌, ℕ, ◌+◌, ◌-◌, ◌<◌, ◌≤◌, Bool, true, List, refl, sym, ap}
-use Rattle.std.proofs.Common.{◌∙◌, subst, arith}
+use Rattle.std.proofs.Common.{◌∙◌, ◌^◌, ◌||◌, inl, inr, min, subst, arith}
+use Rattle.std.proofs.lemmas.Bool.{cases_lt}
+use Rattle.std.proofs.Math.Bool.{or-true}
 use Rattle.std.specs.Prelude.{Option, None, Some, option_and_then, option_map, Result, Ok, Err}
 use Rattle.pdb_addresses.specs.Addresses.{Map, inner_place}
 use Rattle.pdb_addresses.specs.Places.{Place}
 use Rattle.pdb_addresses.specs.SectionRun.{place_on}
 use Rattle.pdb_addresses.specs.declared.internal_section_offset.PdbInternalSectionOffset.{PdbInternalSectionOffset}
-use Rattle.pdb_databases.specs.FileFrames.{found_by}
+use Rattle.pdb_addr2line.specs.FileFrames.{found_by}
 use Rattle.pdb_frames.specs.FrameRuns.{if_answered, readable}
 use Rattle.pdb_owners.specs.Databases.{Database, IsOneRun, on, place_of}
 use Rattle.pdb_owners.specs.Frames.{FunctionFrames}
@@ -27,14 +29,14 @@ use Rattle.pdb_loading.specs.declared.order.ContributionOrder.TheVariants.{InOrd
 use Rattle.pdb_loading.specs.Loading as loading
 use Rattle.pdb_loading.specs.Loading.{AddressTableDecreases, Loaded, in_loading, listed, loaded_with}
 use Rattle.pdb_loading.specs.Loading.{LoadingFault, none_or, parts_in, tables}
-use Rattle.pdb_addr2line.specs.Context.{Context, lasting}
+use Rattle.pdb_addr2line.specs.Context.{Context, lasting, uncounted}
 use Rattle.pdb_addresses.specs.Places.{internal_place}
 use Rattle.pdb_frames.specs.Choice.{held_at}
-use Rattle.pdb_databases.specs.Answer.{AnswersNamed, answer_by, answer_named, answered_in}
-use Rattle.pdb_databases.specs.Answer.{database_by, database_in, database_named, frames_by}
-use Rattle.pdb_databases.specs.Answer.{frames_in, frames_named, function_by, function_named}
-use Rattle.pdb_databases.specs.Answer.{map_by, map_with, scope_named}
-use Rattle.pdb_databases.specs.FileAnswers.{FileAnswers, IsKnown}
+use Rattle.pdb_addr2line.specs.Answer.{AnswersNamed, answer_by, answer_named, answered_in}
+use Rattle.pdb_addr2line.specs.Answer.{database_by, database_in, database_named, frames_by}
+use Rattle.pdb_addr2line.specs.Answer.{frames_in, frames_named, function_by, function_named}
+use Rattle.pdb_addr2line.specs.Answer.{map_by, map_with, scope_named}
+use Rattle.pdb_addr2line.specs.FileAnswers.{FileAnswers, IsKnown}
 use Rattle.pdb_file_views.specs.Views.{Grows, agrees}
 use Rattle.pdb_frames.specs.FrameRuns.{frames_here}
 use Rattle.pdb_frames.specs.FramesAt.{frames, frames_if_held, function, function_at}
@@ -46,6 +48,9 @@ use Rattle.pdb_resolving.specs.Fault.{lifted}
 use Rattle.pdb_symbol_records.specs.Symbols.{symbols_from}
 use Rattle.pdb_symbols_modules.specs.DatabaseCalls.{debug_information, names}
 use Rattle.pdb_symbols_modules.specs.Shared.{Shared, shared}
+use Rattle.pdb_owners.specs.Counts.{is_bound_in}
+use Rattle.pdb_symbols.specs.Lookups.{begins_by, begins_if, begins_named, breaks, is_bound_for}
+use Rattle.pdb_symbols.specs.Lookups.{is_bound_of, rise}
 use Rattle.pdb_symbols.specs.Told.{start_of, told_found, told_place}
 
 -- ---- at a place
@@ -258,3 +263,99 @@ answers_on flags order s c d same h =
       by_file = now.by_file;
       list = now.list;
     }
+
+-- ---- where runs end
+
+-- the lesser of two runs ends at a bound of one of them
+pub ends_at_bound : (functions : Database Function) (frames : Database (Option FunctionFrames))
+    (p : Place) (limit n m count : ℕ) → IsOneRun functions p limit n → IsOneRun frames p limit m
+    → count ≡ min m n → count < limit → is_bound_of functions frames (on p count) ≡ true
+ends_at_bound functions frames p limit n m count a b is lt = elim (cases_lt m n) [
+  | inl less ↦
+      let same : m ≡ count = omega (arith, is, less) in
+      ap (λ (x : Bool). functions.is_bound (on p count) || x)
+      (subst (λ (k : ℕ). frames.is_bound (on p k) ≡ true) same (b.ends (omega (arith, same, lt))))
+      ∙ or-true (functions.is_bound (on p count))
+  | inr more ↦
+      let same : n ≡ count = omega (arith, is, more) in
+      ap (λ (x : Bool). x || frames.is_bound (on p count))
+      (subst (λ (k : ℕ). functions.is_bound (on p k) ≡ true) same (a.ends (omega (arith, same, lt))))
+]
+
+-- by a context that was asked since
+pub frames_run : (c d : Context (List KeptInfo)) (p : Place) (limit n : ℕ)
+    → uncounted d ≡ uncounted c → IsOneRun (frames_in answered_in d) p limit n
+    → IsOneRun (frames_in answered_in c) p limit n
+frames_run c d p limit n same run =
+    subst (λ (x : Context (List KeptInfo)). IsOneRun (frames_in answered_in x) p limit n) same run
+
+-- by how much its count rose
+pub counted_by : (a b : Option (Context (List KeptInfo))) (c d : Context (List KeptInfo))
+    (old new count : ℕ) → a ≡ Some c → b ≡ Some d → count ≡ d.lookups - c.lookups
+    → new ≡ min (old + count) (2 ^ 64 - 1) → new ≡ min (old + rise a b) (2 ^ 64 - 1)
+counted_by a b c d old new count first last is sum =
+    let rose : rise a b ≡ d.lookups - c.lookups
+    = ap (λ (o : Option (Context (List KeptInfo))). rise o b) first
+    ∙ ap (λ (o : Option (Context (List KeptInfo))). rise (Some c) o) last in
+    omega (arith, rose, is, sum)
+
+-- a piece begins at an address of a file that is loaded
+begins_with : (flags : ℕ) (order : ContributionOrder) (s : Streams) (m : Map) (a : ℕ)
+    → map_with order s ≡ Some m
+    → begins_by m (database_named flags order s) (frames_named flags order s) a ≡ true
+    → begins_named flags order s a ≡ true
+unfolding begins_named
+begins_with flags order s m a is h =
+    ap (λ (o : Option Map).
+    begins_if o (database_named flags order s) (frames_named flags order s) a) is ∙ h
+
+-- where places no longer follow each other
+pub breaks_begin : (flags : ℕ) (order : ContributionOrder) (s : Streams) (m : Map) (a : ℕ)
+    → map_with order s ≡ Some m → breaks m a ≡ true → begins_named flags order s a ≡ true
+breaks_begin flags order s m a is h =
+    begins_with flags order s m a is
+    (ap (λ (b : Bool). b || (is_bound_in (database_named flags order s) (inner_place m a)
+    || is_bound_in (frames_named flags order s) (inner_place m a))) h)
+
+bounds_begin : (flags : ℕ) (order : ContributionOrder) (s : Streams) (m : Map) (a : ℕ) (p : Place)
+    → map_with order s ≡ Some m → inner_place m a ≡ Some p
+    → is_bound_of (database_named flags order s) (frames_named flags order s) p ≡ true
+    → begins_named flags order s a ≡ true
+bounds_begin flags order s m a p is there h =
+    begins_with flags order s m a is
+    (ap (λ (o : Option Place). breaks m a || (is_bound_in (database_named flags order s) o
+    || is_bound_in (frames_named flags order s) o)) there
+    ∙ ap (λ (b : Bool). breaks m a || b) h ∙ or-true (breaks m a))
+
+-- a run of addresses ends where its places do, or what is told of them
+pub run_ends : (flags : ℕ) (order : ContributionOrder) (s : Streams) (m : Map)
+    (address end n count : ℕ) (found : Option PdbInternalSectionOffset)
+    (place : PdbInternalSectionOffset) → map_with order s ≡ Some m → found ≡ Some place
+    → ((k : ℕ) → k < n → inner_place m (address + k) ≡ place_on k (option_map place_of found))
+    → (address + n < end → breaks m (address + n) ≡ true) → count ≤ n
+    → (count < n → is_bound_of (database_named flags order s) (frames_named flags order s)
+    (on (place_of place) count) ≡ true)
+    → address + count < end → begins_named flags order s (address + count) ≡ true
+run_ends flags order s m address end n count found place is some along ends few bound lt =
+    elim (cases_lt count n) [
+      | inl less ↦
+          bounds_begin flags order s m (address + count) (on (place_of place) count) is
+          (along count less
+          ∙ ap (λ (o : Option PdbInternalSectionOffset). place_on count (option_map place_of o)) some)
+          (bound less)
+      | inr all ↦
+          let same : n ≡ count = omega (arith, few, all) in
+          breaks_begin flags order s m (address + count) is
+          (subst (λ (k : ℕ). breaks m (address + k) ≡ true) same
+          (ends (omega (arith, same, lt))))
+    ]
+
+-- by a context of the file
+pub context_bound : (flags : ℕ) (order : ContributionOrder) (s : Streams)
+    (c : Context (List KeptInfo)) (p : Place) → AnswersNamed flags order answered_in s c
+    → is_bound_for c p ≡ true
+    → is_bound_of (database_named flags order s) (frames_named flags order s) p ≡ true
+context_bound flags order s c p is h =
+    sym (ap (λ (db : Database Function). is_bound_of db (frames_in answered_in c) p) is.places
+    ∙ ap (λ (db : Database (Option FunctionFrames)).
+    is_bound_of (database_named flags order s) db p) is.by_frames) ∙ h

@@ -9,9 +9,9 @@ use Rattle.pdb_image.specs.declared.error.ImageError.{ImageError}
 use Rattle.pdb_symbol_files.proofs.Writes.{first_part, second_part}
 use Rattle.pdb_symbol_files.specs.Output.{AppendsFront}
 use Rattle.pdb_symbols.specs.UnwindingText.{text_if_read, unwinding_text, unwound_text}
-use Rattle.pdb_unwinding.specs.Entries.{UnwoundFunction, functions_in}
-use Rattle.pdb_unwinding.specs.Records.{records_of}
-use Rattle.pdb_unwinding.specs.Texts.{records_text}
+use Rattle.pdb_image.specs.Entries.{UnwoundFunction, functions_in}
+use Rattle.pdb_image.specs.Records.{records_of}
+use Rattle.pdb_image.specs.Texts.{records_text}
 
 -- so much is out of a text, some is kept, and the rest isn't made yet
 pub record IsOnTheWay (old new : Option (List ℕ)) (whole kept rest : List ℕ) : Type 0 where

@@ -1,7 +1,7 @@
 -- How the records that say whose a symbol file is are made.
 use Rattle.std.specs.Prelude.{◌≡◌, ℕ, List, Option, option_map, Result, Ok, Err, string_bytes}
 use Rattle.pdb_addresses.specs.declared.sections.ImageSectionHeader.{ImageSectionHeader}
-use Rattle.pdb_databases.specs.Identity.{identity_in}
+use Rattle.pdb_addr2line.specs.Identity.{identity_in}
 use Rattle.pdb_image.specs.Image.{Image}
 use Rattle.pdb_image.specs.declared.identity.PdbIdentity.{PdbIdentity}
 use Rattle.pdb_loading.specs.Held.{Held}

@@ -1,7 +1,10 @@
 pub mod Told
+pub mod Lookups
 pub mod SymbolsText
 pub mod UnwindingText
 pub mod NamedLines
 pub mod Ends
 pub mod SymbolFile
 pub mod Described
+pub mod Making
+pub mod Roads

@@ -7,7 +7,7 @@ use Rattle.std.specs.List.{flat_map}
 use Rattle.std.specs.Str.{bytes_eq}
 use Rattle.pdb_container.specs.Container.{half_at, word_at}
 use Rattle.pdb_container.specs.Fault.{◌>>=◌}
-use Rattle.pdb_databases.specs.Identity.{identity_in}
+use Rattle.pdb_addr2line.specs.Identity.{identity_in}
 use Rattle.pdb_image.specs.CodeView.{CodeView, code_view_of}
 use Rattle.pdb_image.specs.Image.{Image, image_of}
 use Rattle.pdb_image.specs.declared.error.ImageError.{ImageError}
@@ -19,6 +19,7 @@ use Rattle.pdb_loading.specs.declared.order.ContributionOrder.TheVariants.{Any}
 use Rattle.pdb_symbol_files.specs.Code.{answers_of_code}
 use Rattle.pdb_symbol_files.specs.Heads.{code_id_text, module_text}
 use Rattle.pdb_symbol_files.specs.Output.{AppendsFront}
+use Rattle.pdb_symbol_files.specs.Reading.{ReadsBack}
 use Rattle.pdb_symbol_files.specs.RecordTexts.{hexadecimal}
 use Rattle.pdb_symbol_files.specs.Records.{SymbolRecords, symbol_records}
 use Rattle.pdb_symbols.specs.declared.fault.SymbolsFault.{SymbolsFault}
@@ -36,11 +37,14 @@ use Rattle.pdb_symbols_modules.specs.Streams.{Streams}
 abbrev pub padded : ℕ → ℕ → List ℕ
 padded width n = padded_integral (format_spec 32 0 4 width (2 ^ 64 - 1)) false [] (digits 16 true n)
 
+-- the numbers that a GUID begins with
+abbrev pub guid_numbers : List ℕ → List ℕ
+guid_numbers guid =
+    padded 8 (word_at guid 0) ++ padded 4 (half_at guid 4) ++ padded 4 (half_at guid 6)
+
 -- a GUID, as symbol servers name it: three numbers, and eight bytes
 unfoldable pub guid_name : List ℕ → List ℕ
-guid_name guid =
-    (padded 8 (word_at guid 0) ++ padded 4 (half_at guid 4) ++ padded 4 (half_at guid 6))
-    ++ flat_map (λ byte. padded 2 byte) (drop 8 guid)
+guid_name guid = guid_numbers guid ++ flat_map (λ byte. padded 2 byte) (drop 8 guid)
 
 -- an identity: the GUID, and the age
 abbrev pub identity_name : PdbIdentity → List ℕ
@@ -159,10 +163,12 @@ FailsToMake reads file s ends.ImageNamesNoPdb = file ≡ Err ImageNamesNoPdb
 FailsToMake reads file s ends.OtherBuild = file ≡ Err OtherBuild
 FailsToMake reads file s (ends.Write kind) = ⊥
 
--- A symbol file was written, its names undecorated or not.
+-- A symbol file was written, its names undecorated or not. A consumer reads its text back as its
+-- records.
 pub record IsWritten (demangle : Bool) (f : SymbolFile) (old new : Option (List ℕ)) : Type 0 where
   pub named : List ℕ
   pub is : IsNamedText demangle (text_of f) named
+  pub back : ReadsBack f.records
   pub appends : Appends old new (named ++ f.unwinding)
 
 -- A prefix of it was.

@@ -5,9 +5,9 @@ use Rattle.std.specs.Io.KnownBytes.{Appends}
 use Rattle.pdb_image.specs.Image.{Image}
 use Rattle.pdb_image.specs.declared.error.ImageError.{ImageError}
 use Rattle.pdb_symbol_files.specs.Output.{AppendsFront}
-use Rattle.pdb_unwinding.specs.Entries.{UnwoundFunction, functions_in}
-use Rattle.pdb_unwinding.specs.Records.{records_of}
-use Rattle.pdb_unwinding.specs.Texts.{records_text}
+use Rattle.pdb_image.specs.Entries.{UnwoundFunction, functions_in}
+use Rattle.pdb_image.specs.Records.{records_of}
+use Rattle.pdb_image.specs.Texts.{records_text}
 
 -- the records of functions, one function after the other
 abbrev pub unwound_text : List UnwoundFunction → List ℕ

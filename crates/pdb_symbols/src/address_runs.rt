@@ -1,9 +1,10 @@
 //! Over how many addresses their places follow each other.
 
-ghost use Rattle.std.specs.Prelude.{◌≡◌, ◌+◌, ◌<◌, ◌≤◌, ℕ, Some, option_map};
+ghost use Rattle.std.specs.Prelude.{◌≡◌, ◌+◌, ◌<◌, ◌≤◌, ℕ, false, true, Some, option_map};
 ghost use Rattle.pdb_addresses.specs.Addresses.{IsOrdered, inner, inner_place};
 ghost use Rattle.pdb_addresses.specs.SectionRun.{place_on};
 ghost use Rattle.pdb_owners.specs.Databases.{place_of};
+ghost use Rattle.pdb_symbols.specs.Lookups.{breaks, goes_on};
 
 use pdb_addresses::{AddressMap, PdbInternalRva, PdbInternalSectionOffset, Rva};
 
@@ -15,6 +16,8 @@ fn internal_count(map: &AddressMap<'_>, address: u32, internal: PdbInternalRva, 
     ensures some { 1 ≤ result }
     ensures within { address + result ≤ end }
     ensures along { (k : ℕ) → k < result → inner map.now (address + k) ≡ Some (internal.0 + k) }
+    ensures ends { address + result < end
+        → goes_on map.now.to_internal (address + result) ≡ false }
 {
     let mut ranges = map.internal_rva_ranges(Rva(address)..Rva(end));
     match ranges.next() {
@@ -41,6 +44,7 @@ pub fn address_run(
     ensures within { address + result.1 ≤ end }
     ensures along { (k : ℕ) → k < result.1 → inner_place map.now (address + k)
         ≡ place_on k (option_map place_of result.0) }
+    ensures ends { address + result.1 < end → breaks map.now (address + result.1) ≡ true }
 {
     let Some(internal) = Rva(address).to_internal_rva(map) else {
         return (None, 1);

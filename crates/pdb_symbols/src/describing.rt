@@ -1,6 +1,7 @@
 //! Whose a symbol file is: the records that say so, and the image.
 
-ghost use Rattle.std.specs.Prelude.{◌≡◌, ◌++◌, Ok, IfErr, IfOk, OnOk, option_copied, option_map, string_bytes};
+ghost use Rattle.std.specs.Prelude.{◌≡◌, Ok, IfErr, IfOk, OnOk, option_copied, option_map, string_bytes};
+ghost use Rattle.pdb_symbol_files.specs.Output.{IsAppended};
 ghost use Rattle.pdb_symbol_files.specs.Heads.{machine_name};
 ghost use Rattle.pdb_symbols.specs.Described.{RefusesImage, asked_of};
 ghost use Rattle.pdb_symbols.specs.Described.{machine_number as machine_number_of};
@@ -10,9 +11,9 @@ ghost use Rattle.pdb_symbols.specs.SymbolFile.{image_record, same_identity};
 use crate::fault::SymbolsFault;
 use crate::identity::identity_text;
 use crate::options::Options;
+use pdb_addr2line::Held;
 use pdb_addr2line::pdb::MachineType;
 use pdb_addresses::ImageSectionHeader;
-use pdb_databases::Held;
 use pdb_image::{CodeView, Image, PdbIdentity};
 use pdb_symbol_files::{append_code_id, append_module};
 use pdb_symbols_modules::DebugInformation;
@@ -40,10 +41,10 @@ fn machine_in(information: &DebugInformation<'_>) -> u16
 
 /// Whether an image's record names a database of an identity.
 #[tactic(auto, using(crate::proofs::HeadSteps::same_test))]
-fn is_build(record: &CodeView<'_>, identity: &PdbIdentity) -> bool
-    ensures { result ≡ same_identity record.now.identity identity.now }
+fn is_build(view: &CodeView<'_>, identity: &PdbIdentity) -> bool
+    ensures { result ≡ same_identity view.now.identity identity.now }
 {
-    record.identity().matches(identity)
+    view.identity().matches(identity)
 }
 
 /// Checks that an image is of the build of a database's identity, and returns it.
@@ -102,8 +103,8 @@ fn append_image(
     path: &Option<String>,
     output: &mut String,
 ) -> Result<(), AllocError>
-    ensures { OnOk result (string_bytes output.new ≡ string_bytes output.old
-        ++ image_record (option_copied image.entry) (option_map (λ p. string_bytes p) path.now)) }
+    ensures { OnOk result (IsAppended output.old output.new
+        (image_record (option_copied image.entry) (option_map (λ p. string_bytes p) path.now))) }
 {
     let (Some(image), Some(path)) = (image, path) else {
         return Ok(());

@@ -1,16 +1,14 @@
 //! Where a symbol file is written.
 
-ghost use Rattle.std.specs.Prelude.{IfErr};
-ghost use Rattle.pdb_symbols.specs.Ends.{FailsToWrite};
-
 use crate::fault::SymbolsFault;
-use crate::image::read_image;
+use crate::image_file::read_image;
 use crate::making::{Destination, write_in_memory};
 use crate::making_on_demand::{OnDemand, write_on_demand};
 use crate::options::{Options, Target};
+use crate::output_file::{OutputFile, open_output, write_fault};
 use crate::progress::Progress;
 use bumpalo::Bump;
-use pdb_databases::{ContributionOrder, FileOnDemand};
+use pdb_addr2line::{ContributionOrder, FileOnDemand};
 use pdb_file_views::reach;
 use pdb_image::PdbIdentity;
 use pdb_loading::read_file;
@@ -61,33 +59,12 @@ fn store_path(
     Ok((folder, path))
 }
 
-/// Where a write failed.
-fn write_fault<T>(outcome: io::Result<T>) -> Result<T, SymbolsFault>
-    ensures { IfErr result FailsToWrite }
-{
-    match outcome {
-        Ok(done) => Ok(done),
-        Err(error) => Err(SymbolsFault::of_write(error.kind())),
-    }
-}
-
-/// A file that is written beside the path that it is to have.
-#[derive(Drop)]
-struct Beside<F: Drop> {
-    file: F,
-    /// Its path while it is written.
-    beside: String,
-    /// The path that it has once it is whole.
-    path: String,
-}
-
-/// Where a symbol file is written: to an output, or beside the path of a file, to which it is
-/// renamed once it is whole.
+/// Where a symbol file is written: to an output, or to a file.
 #[derive(Drop)]
 struct Place<F: Drop, W: Drop> {
     output: W,
     /// The file, once it was opened.
-    opened: Option<Beside<F>>,
+    opened: Option<OutputFile<F>>,
 }
 
 impl<F: Write + Drop, W: Write + Drop> Write for Place<F, W> {
@@ -104,18 +81,6 @@ impl<F: Write + Drop, W: Write + Drop> Write for Place<F, W> {
             None => self.output.flush(),
         }
     }
-}
-
-/// Opens a file beside the path that it is to have.
-fn open_beside<S: Files + AllocGlobal>(
-    rt: &S,
-    path: String,
-) -> Result<Beside<S::File>, SymbolsFault>
-    ensures { IfErr result FailsToWrite }
-{
-    let beside = format!(in rt.alloc(); "{path}.part")?;
-    let file = write_fault(fs::create(rt, beside.as_str()))?;
-    Ok(Beside { file, beside, path })
 }
 
 impl<S: Files + AllocGlobal, W: Write + Drop> Destination<S> for Place<S::File, W> {
@@ -135,30 +100,9 @@ impl<S: Files + AllocGlobal, W: Write + Drop> Destination<S> for Place<S::File, 
                 path
             }
         };
-        self.opened = Some(open_beside(rt, path)?);
+        self.opened = Some(open_output(rt, path)?);
         Ok(())
     }
-}
-
-/// Ends what was written: a file that is whole is renamed, and any other is removed.
-fn end<S: Files + AllocGlobal>(
-    rt: &S,
-    opened: Option<Beside<S::File>>,
-    written: Result<(), SymbolsFault>,
-) -> Result<(), SymbolsFault> {
-    let Some(opened) = opened else {
-        return written;
-    };
-    let Beside { file, beside, path } = opened;
-    drop(file);
-    let outcome = match written {
-        Ok(()) => write_fault(fs::rename(rt, beside.as_str(), path.as_str())),
-        Err(fault) => Err(fault),
-    };
-    if outcome.is_err() {
-        let _ = fs::remove_file(rt, beside.as_str());
-    }
-    outcome
 }
 
 /// Reads a file from its beginning on.
@@ -258,5 +202,8 @@ where
     let written = write_by_file(rt, options, &mut place, progress);
     let Place { output, opened } = place;
     drop(output);
-    end(rt, opened, written)
+    match opened {
+        Some(opened) => opened.end(rt, written),
+        None => written,
+    }
 }

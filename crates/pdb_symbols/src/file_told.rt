@@ -1,24 +1,24 @@
 //! What is told of the addresses of a file that is read on demand.
 
-ghost use Rattle.std.specs.Prelude.{◌≡◌, ◌<◌, ◌≤◌, ℕ, IfErr, IfOk, string_bytes};
-ghost use Rattle.pdb_databases.specs.Answer.{database_named, frames_named};
-ghost use Rattle.pdb_databases.specs.FileAnswers.{IsKnown};
+ghost use Rattle.std.specs.Prelude.{◌≡◌, ◌+◌, ◌-◌, ◌*◌, ◌^◌, ◌≤◌, IfErr, IfOk, IfSome, OnErr, OnOk};
+ghost use Rattle.std.specs.Prelude.{min, string_bytes};
+ghost use Rattle.pdb_addr2line.specs.FileAnswers.{IsKnown};
 ghost use Rattle.pdb_file_views.specs.Views.{Grows};
-ghost use Rattle.pdb_owners.specs.Databases.{on, place_of};
-ghost use Rattle.pdb_symbol_files.specs.Code.{answers_of_code};
-ghost use Rattle.pdb_symbol_files.specs.Records.{symbol_records};
+ghost use Rattle.pdb_owners.specs.Databases.{place_of};
+ghost use Rattle.pdb_symbol_files.specs.Code.{pieces_of_code};
+ghost use Rattle.pdb_symbol_files.specs.PlainAnswers.{IsPlainTold};
 ghost use Rattle.pdb_symbols.specs.Ends.{IsReadFault};
-ghost use Rattle.pdb_symbols.specs.SymbolsText.{HasRecords};
-ghost use Rattle.pdb_symbols.specs.Told.{told_named, told_place};
-ghost use Rattle.pdb_symbols_modules.specs.Streams.{streams};
+ghost use Rattle.pdb_symbols.specs.Lookups.{EndsAtBound, begins_of, is_bound_by, rise};
+ghost use Rattle.pdb_symbols.specs.SymbolsText.{TellsCode};
+ghost use Rattle.pdb_symbols.specs.Told.{TellsPlaces, told_by, told_named, told_place_by};
 
 use crate::address_runs::address_run;
 use crate::fault::SymbolsFault;
 use crate::progress::Progress;
 use crate::told_places::told_at_place;
 use crate::writing::{FileText, text_of};
+use pdb_addr2line::{Error, FileSymbolizer, TRIES};
 use pdb_addresses::{ImageSectionHeader, PdbInternalSectionOffset};
-use pdb_databases::{Error, FileSymbolizer, TRIES};
 use pdb_symbol_files::{ToldFault, ToldRun, ToldRuns};
 use std::alloc::Global;
 use std::io::{ErrorKind, Write};
@@ -32,13 +32,15 @@ fn read_fault(kind: ErrorKind) -> ToldFault {
     }
 }
 
-/// What is told of a place by what was read of a file, and of how many places from there on.
+/// What is told of a place by what was read of a file, and of how many places from there on. What
+/// the context looked up for it is added to `lookups`.
 ///
 /// # Errors
 /// `OutOfMemory` alone, also where something has to be read first.
 fn told_held<F: Drop>(
     alloc: Global,
     symbolizer: &mut FileSymbolizer<'_, F>,
+    lookups: &mut u64,
     inlines: bool,
     place: PdbInternalSectionOffset,
     limit: u32,
@@ -51,28 +53,37 @@ fn told_held<F: Drop>(
     ensures views { symbolizer.new.views ≡ symbolizer.old.views }
     ensures some { IfOk result (λ run. 1 ≤ run.count) }
     ensures within { IfOk result (λ run. run.count ≤ limit) }
-    ensures told { IsKnown symbolizer.new → IfOk result (λ run. (k : ℕ) → k < run.count
-        → told_place inlines
-        (database_named symbolizer.old.flags symbolizer.old.order (streams symbolizer.old.contents))
-        (frames_named symbolizer.old.flags symbolizer.old.order (streams symbolizer.old.contents))
-        (on (place_of place) k) ≡ run.told) }
+    ensures told { IsKnown symbolizer.new
+        → IfOk result (TellsPlaces (told_place_by inlines symbolizer.old) (place_of place)) }
+    ensures plain { IfOk result (λ run. IfSome run.told IsPlainTold) }
+    ensures ends { IsKnown symbolizer.new
+        → IfOk result (EndsAtBound (is_bound_by symbolizer.old) (place_of place) limit) }
+    ensures counted { OnOk result (lookups.new ≡ min
+        (lookups.old + rise symbolizer.old.context symbolizer.new.context) (2 ^ 64 - 1)) }
+    ensures lookups { OnOk result (lookups.new ≤ lookups.old + 2) }
+    ensures uncounted { OnErr result (lookups.new ≡ lookups.old) }
 {
     let Some(mut context) = symbolizer.take_context() else {
         return Err(Error::OutOfMemory);
     };
+    let before = context.lookups();
     let run = told_at_place(alloc, &mut context, inlines, place, limit);
+    let after = context.lookups();
     symbolizer.put_context(context);
-    run
+    let run = run?;
+    *lookups = lookups.saturating_add(after.saturating_sub(before));
+    Ok(run)
 }
 
 /// What is told of a place, and of how many places from there on. What is missing of the file is
-/// read.
+/// read. What was looked up the last time, when nothing was missing, is added to `lookups`.
 ///
 /// # Errors
 /// `File` where the file couldn't be read; `OutOfMemory`.
 fn told_read<F: FileExt + Drop>(
     alloc: Global,
     symbolizer: &mut FileSymbolizer<'_, F>,
+    lookups: &mut u64,
     inlines: bool,
     place: PdbInternalSectionOffset,
     limit: u32,
@@ -85,14 +96,15 @@ fn told_read<F: FileExt + Drop>(
     ensures grows { Grows symbolizer.old.views symbolizer.new.views }
     ensures some { IfOk result (λ run. 1 ≤ run.count) }
     ensures within { IfOk result (λ run. run.count ≤ limit) }
-    ensures told { IsKnown symbolizer.new → IfOk result (λ run. (k : ℕ) → k < run.count
-        → told_place inlines
-        (database_named symbolizer.old.flags symbolizer.old.order (streams symbolizer.old.contents))
-        (frames_named symbolizer.old.flags symbolizer.old.order (streams symbolizer.old.contents))
-        (on (place_of place) k) ≡ run.told) }
+    ensures told { IsKnown symbolizer.new
+        → IfOk result (TellsPlaces (told_place_by inlines symbolizer.old) (place_of place)) }
+    ensures plain { IfOk result (λ run. IfSome run.told IsPlainTold) }
+    ensures ends { IsKnown symbolizer.new
+        → IfOk result (EndsAtBound (is_bound_by symbolizer.old) (place_of place) limit) }
+    ensures lookups { OnOk result (lookups.new ≤ lookups.old + 2) }
 {
     for _ in 0..TRIES {
-        match told_held(alloc, symbolizer, inlines, place, limit) {
+        match told_held(alloc, symbolizer, lookups, inlines, place, limit) {
             Ok(run) => return Ok(run),
             Err(_) => {}
         }
@@ -114,10 +126,14 @@ pub struct FileTold<'a, F: Drop, E> {
     pub inlines: bool,
     /// How far the work is.
     pub progress: Progress<E>,
+    /// How often the context looked a place up, for what was told: where something was missing,
+    /// what was looked up before it was read isn't counted. At `u64::MAX` the count stays.
+    pub lookups: u64,
 }
 
 impl<'a, F: FileExt + Drop, E: Write + Drop> ToldRuns for FileTold<'a, F, E> {
-    ghost use Rattle.pdb_databases.specs.FileAnswers.{IsKnown};
+    ghost use Rattle.pdb_addr2line.specs.FileAnswers.{IsKnown};
+    ghost use Rattle.pdb_symbols.specs.Lookups.{begins_of};
     ghost use Rattle.pdb_symbols.specs.Told.{told_named};
     ghost use Rattle.pdb_symbols_modules.specs.Streams.{streams};
 
@@ -128,6 +144,10 @@ impl<'a, F: FileExt + Drop, E: Write + Drop> ToldRuns for FileTold<'a, F, E> {
 
     ghost file = { λ t. t.symbolizer.contents };
 
+    ghost begins = { λ t. begins_of t.symbolizer };
+
+    ghost lookups = { λ t. t.lookups };
+
     fn prepare(&mut self, addresses: u64) {
         self.symbolizer.ask_all();
         self.progress.begin(addresses);
@@ -135,8 +155,16 @@ impl<'a, F: FileExt + Drop, E: Write + Drop> ToldRuns for FileTold<'a, F, E> {
 
     fn told_run(&mut self, alloc: Global, address: u32, end: u32) -> Result<ToldRun, ToldFault> {
         let (place, count) = address_run(self.symbolizer.address_map(), address, end);
+        let inlines = self.inlines;
         let run = match place {
-            Some(place) => told_read(alloc, &mut self.symbolizer, self.inlines, place, count)?,
+            Some(place) => told_read(
+                alloc,
+                &mut self.symbolizer,
+                &mut self.lookups,
+                inlines,
+                place,
+                count,
+            )?,
             None => ToldRun { told: None, count },
         };
         self.progress.advance(run.count);
@@ -146,7 +174,8 @@ impl<'a, F: FileExt + Drop, E: Write + Drop> ToldRuns for FileTold<'a, F, E> {
 
 /// The text of the records of the functions of a file that is read on demand, behind a head: those
 /// of its frames at the addresses at which code may run, where the bytes that the file is taken to
-/// have agree with all that was read.
+/// have agree with all that was read. The count of lookups rises by at most two for each piece of
+/// these addresses.
 ///
 /// # Errors
 /// `File` where the file couldn't be read; or out of memory.
@@ -159,11 +188,10 @@ pub fn text_on_demand<F: FileExt + Drop, E: Write + Drop>(
     ensures grows { IsKnown runs.new.symbolizer → IsKnown runs.old.symbolizer }
     ensures contents { runs.new.symbolizer.contents ≡ runs.old.symbolizer.contents }
     ensures fails { IfErr result IsReadFault }
-    ensures records { IsKnown runs.new.symbolizer → IfOk result (λ text.
-        HasRecords (string_bytes text.head) (string_bytes text.functions) (string_bytes head)
-        (symbol_records (answers_of_code sections.now
-        (told_named runs.old.inlines runs.old.symbolizer.flags runs.old.symbolizer.order
-        (streams runs.old.symbolizer.contents))))) }
+    ensures records { IsKnown runs.new.symbolizer → IfOk result (TellsCode (string_bytes head)
+        sections.now (told_by runs.old.inlines runs.old.symbolizer)) }
+    ensures lookups { IsKnown runs.new.symbolizer → OnOk result (runs.new.lookups
+        ≤ runs.old.lookups + 2 * pieces_of_code sections.now (begins_of runs.old.symbolizer)) }
 {
     match text_of(alloc, head, sections, runs) {
         Ok(text) => Ok(text),

@@ -1,10 +1,10 @@
 //! The identity of a database, as symbol servers name it.
 
-ghost use Rattle.std.specs.Prelude.{◌≡◌, ◌++◌, IfOk, OnOk, length, string_bytes};
+ghost use Rattle.std.specs.Prelude.{◌≡◌, IfOk, OnOk, length, string_bytes};
 ghost use Rattle.std.specs.List.{flat_map};
-ghost use Rattle.pdb_container.specs.Container.{half_at as half_in, word_at as word_in};
+ghost use Rattle.pdb_symbol_files.specs.Output.{IsAppended};
 ghost use Rattle.pdb_symbol_files.specs.RecordTexts.{hexadecimal};
-ghost use Rattle.pdb_symbols.specs.SymbolFile.{guid_name, identity_name, padded};
+ghost use Rattle.pdb_symbols.specs.SymbolFile.{guid_name, guid_numbers, identity_name, padded};
 
 use pdb_container::{half_at, word_at};
 use pdb_image::PdbIdentity;
@@ -13,9 +13,7 @@ use std::alloc::{AllocError, Global};
 /// Appends the numbers that a GUID begins with.
 fn append_numbers(guid: &[u8], output: &mut String) -> Result<(), AllocError>
     requires { length guid.now ≡ 16 }
-    ensures { OnOk result (string_bytes output.new ≡ string_bytes output.old
-        ++ (padded 8 (word_in guid.now 0) ++ padded 4 (half_in guid.now 4)
-        ++ padded 4 (half_in guid.now 6))) }
+    ensures { OnOk result (IsAppended output.old output.new (guid_numbers guid.now)) }
 {
     let first = word_at(guid, 0);
     let second = half_at(guid, 4);
@@ -26,8 +24,8 @@ fn append_numbers(guid: &[u8], output: &mut String) -> Result<(), AllocError>
 /// Appends bytes, each as two digits.
 #[tactic(auto, using(crate::proofs::HeadSteps::byte_more, crate::proofs::HeadSteps::bytes_end))]
 fn append_bytes(bytes: &[u8], output: &mut String) -> Result<(), AllocError>
-    ensures { OnOk result (string_bytes output.new ≡ string_bytes output.old
-        ++ flat_map (λ byte. padded 2 byte) bytes.now) }
+    ensures { OnOk result (IsAppended output.old output.new
+        (flat_map (λ byte. padded 2 byte) bytes.now)) }
 {
     for byte in bytes {
         write!(output, "{byte:02X}")?;
@@ -39,8 +37,7 @@ fn append_bytes(bytes: &[u8], output: &mut String) -> Result<(), AllocError>
 #[tactic(auto, using(crate::proofs::HeadSteps::guid_made))]
 fn append_guid(guid: &[u8], output: &mut String) -> Result<(), AllocError>
     requires { length guid.now ≡ 16 }
-    ensures { OnOk result (string_bytes output.new ≡ string_bytes output.old
-        ++ guid_name guid.now) }
+    ensures { OnOk result (IsAppended output.old output.new (guid_name guid.now)) }
 {
     append_numbers(guid, output)?;
     append_bytes(&guid[8..], output)?;
@@ -49,8 +46,7 @@ fn append_guid(guid: &[u8], output: &mut String) -> Result<(), AllocError>
 
 /// Appends the age.
 fn append_age(age: u32, output: &mut String) -> Result<(), AllocError>
-    ensures { OnOk result (string_bytes output.new ≡ string_bytes output.old
-        ++ hexadecimal age) }
+    ensures { OnOk result (IsAppended output.old output.new (hexadecimal age)) }
 {
     write!(output, "{age:x}")
 }

@@ -7,37 +7,13 @@ ghost use Rattle.pdb_symbols.specs.Ends.{FailsToWrite};
 ghost use Rattle.pdb_symbols.specs.UnwindingText.{IsPassedOn, unwinding_text, unwound_text};
 
 use crate::fault::SymbolsFault;
-use pdb_image::Image;
+use pdb_image::{Image, UnwoundFunctions};
 use pdb_symbol_files::write_text;
-use pdb_unwinding::UnwoundFunctions;
 use std::alloc::Global;
-use std::fs::OpenFile;
-use std::io::{ErrorKind, Read, Write};
-use std::rt::Files;
-use std::{fs, io};
+use std::io::Write;
 
 /// How long a text gets before it is written.
 const AT_ONCE: usize = 65_536;
-
-/// Reads a file.
-fn read_bytes(rt: &(impl Files + AllocGlobal), path: &str) -> io::Result<Vec<u8>> {
-    let mut file = fs::open(rt, path)?;
-    let mut bytes = Vec::new(rt.alloc());
-    file.read_to_end(&mut bytes)?;
-    Ok(bytes)
-}
-
-/// Reads an image's file.
-///
-/// # Errors
-/// `ImageFile` where it can't be read.
-pub fn read_image(rt: &(impl Files + AllocGlobal), path: &str) -> Result<Vec<u8>, SymbolsFault> {
-    match read_bytes(rt, path) {
-        Ok(bytes) => Ok(bytes),
-        Err(error) if error.kind() == ErrorKind::OutOfMemory => Err(SymbolsFault::out_of_memory()),
-        Err(error) => Err(SymbolsFault::ImageFile(error.kind())),
-    }
-}
 
 /// Writes a text, and empties it.
 fn write_part<W: Write>(text: &mut String, output: &mut W) -> Result<(), SymbolsFault>

@@ -10,10 +10,13 @@ mod file_told;
 mod help;
 mod identity;
 mod image;
+mod image_file;
+mod laws;
 mod making;
 mod making_on_demand;
 mod memory_told;
 mod options;
+mod output_file;
 mod progress;
 mod renaming;
 mod told_places;
@@ -25,6 +28,7 @@ use destination::write_symbols;
 use fault::SymbolsFault;
 use help::{HELP, NOT_UTF8, VERSION};
 use options::{Options, Words, read_options};
+use output_file::is_output_read;
 use progress::{ERASED, Progress};
 use std::io::{ErrorKind, IsTerminal, Write};
 use std::process::ExitCode;
@@ -50,9 +54,15 @@ fn main(rt: HostRuntime) -> ExitCode {
     }
 }
 
-/// Writes the symbol file, and reports how that ended.
+/// Writes the symbol file, and reports how that ended. Neither the database nor the image is
+/// written over.
 fn run(rt: &HostRuntime, options: &Options) -> ExitCode {
     let mut errors = rt.stderr();
+    match is_output_read(rt, options) {
+        Ok(false) => {}
+        Ok(true) => return refuse(&mut errors, "'--output' names a file that is read"),
+        Err(fault) => return report(&mut errors, &fault),
+    }
     let shows = errors.is_terminal();
     let progress = Progress::new(rt.stderr(), shows);
     match write_symbols(rt, options, rt.stdout(), progress) {

@@ -1,17 +1,13 @@
 //! Symbol files by the bytes of their databases: made, and written.
 
-ghost use Rattle.std.specs.Prelude.{◌≡◌, ◌++◌, ℕ, List, false, None, Ok, IfErr, IfOk, OnErr, OnOk};
-ghost use Rattle.std.specs.Prelude.{option_copied, string_bytes};
-ghost use Rattle.std.specs.Io.KnownBytes.{Appends};
+ghost use Rattle.std.specs.Prelude.{◌≡◌, false, IfErr, IfOk, OnErr, OnOk, option_copied};
 ghost use Rattle.pdb_loading.specs.declared.order.ContributionOrder.TheVariants.{Any};
 ghost use Rattle.pdb_loading.specs.Loading.{load_fault_with};
-ghost use Rattle.pdb_symbol_files.specs.Output.{AppendsFront};
-ghost use Rattle.pdb_symbols.specs.Described.{asked_of};
 ghost use Rattle.pdb_symbols.specs.Ends.{FailsToWrite};
-ghost use Rattle.pdb_symbols.specs.SymbolFile.{FailsToMake, IsMade, SymbolFile, WritesSymbols};
-ghost use Rattle.pdb_symbols.specs.SymbolFile.{symbol_file};
-ghost use Rattle.pdb_symbols.specs.SymbolsText.{IsNamedInParts};
-ghost use Rattle.pdb_symbols.specs.UnwindingText.{text_of_image};
+ghost use Rattle.pdb_symbols.specs.Lookups.{AreFewLookups};
+ghost use Rattle.pdb_symbols.specs.Making.{FailsMaking, Makes, WritesAsked};
+ghost use Rattle.pdb_symbols.specs.Roads.{WritesTold};
+ghost use Rattle.pdb_symbols.specs.SymbolsText.{WritesText, WritesTextPart};
 ghost use Rattle.pdb_symbols_modules.specs.Streams.{streams};
 
 use crate::describing::{Described, describe};
@@ -20,7 +16,7 @@ use crate::memory_told::{MemoryTold, text_in_memory};
 use crate::options::Options;
 use crate::progress::Progress;
 use crate::writing::{FileText, write_symbols_text};
-use pdb_databases::{ContributionOrder, Symbolizer};
+use pdb_addr2line::{ContributionOrder, Symbolizer};
 use pdb_image::{Image, PdbIdentity};
 use std::alloc::Global;
 use std::io::Write;
@@ -51,6 +47,8 @@ pub struct Made<'b> {
     pub image: Option<Image<'b>>,
     /// The identity of the database.
     pub identity: PdbIdentity,
+    /// How often a place was looked up: at most twice for each piece of the addresses.
+    pub lookups: u64,
 }
 
 /// Makes the symbol file of a database that was loaded, and of the bytes of its image, if they are
@@ -66,12 +64,11 @@ fn made_by<'b, E: Write + Drop>(
     progress: Progress<E>,
 ) -> Result<Made<'b>, SymbolsFault>
     requires order { symbolizer.now.order ≡ Any }
-    ensures ok { IfOk result (λ m. (f : SymbolFile) × (symbol_file (asked_of options.now)
-        (option_copied image.entry) (streams symbolizer.now.bytes) ≡ Ok f)
-        × IsMade f (string_bytes m.text.head) (string_bytes m.text.functions) m.image) }
-    ensures failed { IfErr result (λ e. FailsToMake false (symbol_file (asked_of options.now)
-        (option_copied image.entry) (streams symbolizer.now.bytes))
-        (streams symbolizer.now.bytes) e) }
+    ensures ok { IfOk result (λ m. Makes options.now (option_copied image.entry)
+        symbolizer.now.bytes m.text m.image) }
+    ensures lookups { IfOk result (λ m. AreFewLookups symbolizer.now.bytes m.lookups) }
+    ensures failed { IfErr result
+        (FailsMaking false options.now (option_copied image.entry) symbolizer.now.bytes) }
 {
     let held = symbolizer.held();
     let identity = symbolizer.identity(alloc)?;
@@ -89,10 +86,12 @@ fn made_by<'b, E: Write + Drop>(
         image,
     } = described;
     let text = text_in_memory(alloc, first, sections.as_slice(), &mut runs)?;
+    let lookups = runs.context.lookups();
     Ok(Made {
         text,
         image,
         identity,
+        lookups,
     })
 }
 
@@ -108,11 +107,11 @@ fn made_in_memory<'b, E: Write + Drop>(
     image: Option<&'b [u8]>,
     progress: Progress<E>,
 ) -> Result<Made<'b>, SymbolsFault>
-    ensures ok { IfOk result (λ m. (f : SymbolFile) × (symbol_file (asked_of options.now)
-        (option_copied image.entry) (streams bytes.items) ≡ Ok f)
-        × IsMade f (string_bytes m.text.head) (string_bytes m.text.functions) m.image) }
-    ensures failed { IfErr result (λ e. FailsToMake false (symbol_file (asked_of options.now)
-        (option_copied image.entry) (streams bytes.items)) (streams bytes.items) e) }
+    ensures ok { IfOk result
+        (λ m. Makes options.now (option_copied image.entry) bytes.items m.text m.image) }
+    ensures lookups { IfOk result (λ m. AreFewLookups bytes.items m.lookups) }
+    ensures failed { IfErr result
+        (FailsMaking false options.now (option_copied image.entry) bytes.items) }
 {
     let symbolizer = Symbolizer::open_with_order(alloc, bytes, ContributionOrder::Any)?;
     made_by(alloc, options, &symbolizer, image, progress)
@@ -128,14 +127,10 @@ pub fn write_made<S: AllocGlobal, W: Destination<S>>(
     made: &Made<'_>,
     output: &mut W,
 ) -> Result<(), SymbolsFault>
-    ensures ok { OnOk result ((named : List ℕ) × IsNamedInParts options.now.demangle
-        (string_bytes made.now.text.head) (string_bytes made.now.text.functions) named
-        × Appends (W.contents output.old) (W.contents output.new)
-        (named ++ text_of_image made.now.image)) }
-    ensures part { OnErr result ((named : List ℕ) × IsNamedInParts options.now.demangle
-        (string_bytes made.now.text.head) (string_bytes made.now.text.functions) named
-        × AppendsFront (W.contents output.old) (W.contents output.new)
-        (named ++ text_of_image made.now.image)) }
+    ensures ok { OnOk result (WritesText options.now.demangle made.now.text made.now.image
+        (W.contents output.old) (W.contents output.new)) }
+    ensures part { OnErr result (WritesTextPart options.now.demangle made.now.text made.now.image
+        (W.contents output.old) (W.contents output.new)) }
     ensures fails { IfErr result FailsToWrite }
 {
     output.open(rt, options, &made.identity)?;
@@ -144,7 +139,8 @@ pub fn write_made<S: AllocGlobal, W: Destination<S>>(
 }
 
 /// Writes the symbol file of a database by the bytes of its file, and of those of its image, if
-/// they are given.
+/// they are given. A consumer that reads all that was written says of each address the frames that
+/// the report on lines has there, where code may run; of any other address nothing.
 ///
 /// # Errors
 /// The first fault of loading; that of the information stream; those of the image; `Write`; out of
@@ -157,9 +153,10 @@ pub fn write_in_memory<S: AllocGlobal, W: Destination<S>, E: Write + Drop>(
     output: &mut W,
     progress: Progress<E>,
 ) -> Result<(), SymbolsFault>
-    ensures { WritesSymbols false options.now.demangle (symbol_file (asked_of options.now)
-        (option_copied image.entry) (streams bytes.items)) (streams bytes.items)
+    ensures writes { WritesAsked false options.now (option_copied image.entry) bytes.items
         (W.contents output.old) (W.contents output.new) result }
+    ensures says { OnOk result (WritesTold options.now.demangle options.now.inlines
+        (streams bytes.items) (W.contents output.old) (W.contents output.new)) }
 {
     let made = made_in_memory(rt.alloc(), options, bytes, image, progress)?;
     write_made(rt, options, &made, output)

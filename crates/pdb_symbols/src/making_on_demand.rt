@@ -1,13 +1,13 @@
 //! Symbol files of databases that are read on demand: made, and written.
 
-ghost use Rattle.std.specs.Prelude.{◌≡◌, true, None, Ok, IfErr, IfOk, option_copied, string_bytes};
-ghost use Rattle.pdb_databases.specs.FileAnswers.{IsKnown};
+ghost use Rattle.std.specs.Prelude.{◌≡◌, true, None, IfErr, IfOk, OnOk, option_copied, string_bytes};
+ghost use Rattle.pdb_addr2line.specs.FileAnswers.{IsKnown};
 ghost use Rattle.pdb_file_views.specs.Views.{agrees};
 ghost use Rattle.pdb_loading.specs.declared.order.ContributionOrder.TheVariants.{Any};
 ghost use Rattle.pdb_loading.specs.Loading.{load_fault_with};
 ghost use Rattle.pdb_symbols.specs.Described.{IsDescribed, asked_of};
-ghost use Rattle.pdb_symbols.specs.SymbolFile.{FailsToMake, IsMade, SymbolFile, WritesSymbols};
-ghost use Rattle.pdb_symbols.specs.SymbolFile.{symbol_file};
+ghost use Rattle.pdb_symbols.specs.Lookups.{AreFewLookups};
+ghost use Rattle.pdb_symbols.specs.Making.{FailsMaking, Makes, SaysOnDemand, WritesOnDemand};
 ghost use Rattle.pdb_symbols_modules.specs.Streams.{streams};
 
 use crate::describing::{Described, describe};
@@ -16,7 +16,7 @@ use crate::file_told::{FileTold, text_on_demand};
 use crate::making::{Destination, Made, write_made};
 use crate::options::Options;
 use crate::progress::Progress;
-use pdb_databases::{FileOnDemand, FileSymbolizer, NotLoaded};
+use pdb_addr2line::{FileOnDemand, FileSymbolizer, NotLoaded};
 use pdb_image::PdbIdentity;
 use std::alloc::Global;
 use std::io::Write;
@@ -47,9 +47,8 @@ fn described_on_demand<'b, F: FileExt + Drop>(
     ensures ok { IsKnown symbolizer.new → IfOk result (λ d. IsDescribed (asked_of options.now)
         (option_copied image.entry) symbolizer.old.contents (string_bytes d.0.first)
         d.0.sections.items d.0.image d.1) }
-    ensures failed { IsKnown symbolizer.new → IfErr result (λ e. FailsToMake true
-        (symbol_file (asked_of options.now) (option_copied image.entry)
-        (streams symbolizer.old.contents)) (streams symbolizer.old.contents) e) }
+    ensures failed { IsKnown symbolizer.new → IfErr result
+        (FailsMaking true options.now (option_copied image.entry) symbolizer.old.contents) }
 {
     let identity = symbolizer.identity(alloc)?;
     let held = symbolizer.held();
@@ -71,13 +70,13 @@ fn made_by_file<'a, 'b, F: FileExt + Drop, E: Write + Drop>(
         → load_fault_with Any (streams symbolizer.contents) ≡ None }
     ensures contents { result.source.contents.numbers ≡ symbolizer.entry.contents }
     ensures ok { agrees result.source.views symbolizer.entry.contents ≡ true
-        → IfOk result.outcome (λ m. (f : SymbolFile) × (symbol_file (asked_of options.now)
-        (option_copied image.entry) (streams symbolizer.entry.contents) ≡ Ok f)
-        × IsMade f (string_bytes m.text.head) (string_bytes m.text.functions) m.image) }
+        → IfOk result.outcome (λ m. Makes options.now (option_copied image.entry)
+        symbolizer.entry.contents m.text m.image) }
+    ensures lookups { agrees result.source.views symbolizer.entry.contents ≡ true
+        → IfOk result.outcome (λ m. AreFewLookups symbolizer.entry.contents m.lookups) }
     ensures failed { agrees result.source.views symbolizer.entry.contents ≡ true
-        → IfErr result.outcome (λ e. FailsToMake true (symbol_file (asked_of options.now)
-        (option_copied image.entry) (streams symbolizer.entry.contents))
-        (streams symbolizer.entry.contents) e) }
+        → IfErr result.outcome (FailsMaking true options.now (option_copied image.entry)
+        symbolizer.entry.contents) }
 {
     let (described, identity) = match described_on_demand(alloc, options, &mut symbolizer, image) {
         Ok(described) => described,
@@ -99,12 +98,14 @@ fn made_by_file<'a, 'b, F: FileExt + Drop, E: Write + Drop>(
         symbolizer,
         inlines: options.inlines,
         progress,
+        lookups: 0,
     };
     let text = text_on_demand(alloc, first, sections.as_slice(), &mut runs);
     let FileTold {
         symbolizer,
         inlines: _,
         progress,
+        lookups,
     } = runs;
     drop(progress);
     let (source, context) = symbolizer.into_parts();
@@ -114,6 +115,7 @@ fn made_by_file<'a, 'b, F: FileExt + Drop, E: Write + Drop>(
             text,
             image,
             identity,
+            lookups,
         }),
         Err(fault) => Err(fault),
     };
@@ -132,13 +134,13 @@ fn made_on_demand<'a, 'b, F: FileExt + Drop, E: Write + Drop>(
 ) -> OnDemand<'a, F, Made<'b>>
     requires { source.order ≡ Any }
     ensures ok { agrees result.source.views source.entry.contents.numbers ≡ true
-        → IfOk result.outcome (λ m. (f : SymbolFile) × (symbol_file (asked_of options.now)
-        (option_copied image.entry) (streams source.entry.contents.numbers) ≡ Ok f)
-        × IsMade f (string_bytes m.text.head) (string_bytes m.text.functions) m.image) }
+        → IfOk result.outcome (λ m. Makes options.now (option_copied image.entry)
+        source.entry.contents.numbers m.text m.image) }
+    ensures lookups { agrees result.source.views source.entry.contents.numbers ≡ true
+        → IfOk result.outcome (λ m. AreFewLookups source.entry.contents.numbers m.lookups) }
     ensures failed { agrees result.source.views source.entry.contents.numbers ≡ true
-        → IfErr result.outcome (λ e. FailsToMake true (symbol_file (asked_of options.now)
-        (option_copied image.entry) (streams source.entry.contents.numbers))
-        (streams source.entry.contents.numbers) e) }
+        → IfErr result.outcome (FailsMaking true options.now (option_copied image.entry)
+        source.entry.contents.numbers) }
 {
     match FileSymbolizer::open(alloc, source) {
         Ok(symbolizer) => made_by_file(alloc, options, symbolizer, image, progress),
@@ -151,7 +153,8 @@ fn made_on_demand<'a, 'b, F: FileExt + Drop, E: Write + Drop>(
 
 /// Writes the symbol file of a database that is read on demand, and of the bytes of its image, if
 /// they are given. That is the file of the bytes that the database's file is taken to have, where
-/// these agree with all that was read.
+/// these agree with all that was read. A consumer that reads all that was written says of each
+/// address the frames that the report on lines has there, where code may run; of any other nothing.
 pub fn write_on_demand<'a, S: AllocGlobal, F: FileExt + Drop, W: Destination<S>, E: Write + Drop>(
     rt: &S,
     options: &Options,
@@ -161,11 +164,11 @@ pub fn write_on_demand<'a, S: AllocGlobal, F: FileExt + Drop, W: Destination<S>,
     progress: Progress<E>,
 ) -> OnDemand<'a, F, ()>
     requires { source.order ≡ Any }
-    ensures { agrees result.source.views source.entry.contents.numbers ≡ true
-        → WritesSymbols true options.now.demangle (symbol_file (asked_of options.now)
-        (option_copied image.entry) (streams source.entry.contents.numbers))
-        (streams source.entry.contents.numbers) (W.contents output.old) (W.contents output.new)
+    ensures writes { WritesOnDemand result.source.views options.now (option_copied image.entry)
+        source.entry.contents.numbers (W.contents output.old) (W.contents output.new)
         result.outcome }
+    ensures says { SaysOnDemand result.source.views options.now source.entry.contents.numbers
+        (W.contents output.old) (W.contents output.new) result.outcome }
 {
     let OnDemand { outcome, source } = made_on_demand(rt.alloc(), options, source, image, progress);
     let outcome = match outcome {

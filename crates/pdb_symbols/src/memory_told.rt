@@ -1,11 +1,14 @@
 //! What is told of the addresses of a file that is in memory.
 
-ghost use Rattle.std.specs.Prelude.{◌≡◌, ◌+◌, ◌<◌, ◌≤◌, ℕ, IfErr, IfOk, string_bytes};
-ghost use Rattle.pdb_databases.specs.Answer.{AnswersWith, answered_in};
+ghost use Rattle.std.specs.Prelude.{◌≡◌, ◌+◌, ◌*◌, ◌<◌, ◌≤◌, IfErr, IfOk, IfSome, OnOk};
+ghost use Rattle.std.specs.Prelude.{string_bytes};
+ghost use Rattle.pdb_addr2line.specs.Answer.{AnswersWith, answered_in};
 ghost use Rattle.pdb_loading.specs.declared.load_fault.LoadFault.TheVariants as load_faults;
-ghost use Rattle.pdb_symbol_files.specs.Code.{answers_of_code};
-ghost use Rattle.pdb_symbol_files.specs.Records.{symbol_records};
-ghost use Rattle.pdb_symbols.specs.SymbolsText.{HasRecords};
+ghost use Rattle.pdb_symbol_files.specs.Code.{pieces_of_code};
+ghost use Rattle.pdb_symbol_files.specs.PlainAnswers.{IsPlainTold};
+ghost use Rattle.pdb_symbol_files.specs.ToldRanges.{EndsPiece, TellsRun};
+ghost use Rattle.pdb_symbols.specs.Lookups.{begins_named};
+ghost use Rattle.pdb_symbols.specs.SymbolsText.{TellsCode};
 ghost use Rattle.pdb_symbols.specs.declared.fault.SymbolsFault.TheVariants as ends;
 ghost use Rattle.pdb_symbols.specs.Told.{told_named};
 ghost use Rattle.pdb_symbols_modules.specs.Streams.{streams};
@@ -15,8 +18,8 @@ use crate::fault::SymbolsFault;
 use crate::progress::Progress;
 use crate::told_places::told_at_place;
 use crate::writing::{FileText, text_of};
+use pdb_addr2line::{FileContext, Symbolizer};
 use pdb_addresses::ImageSectionHeader;
-use pdb_databases::{FileContext, Symbolizer};
 use pdb_symbol_files::{ToldFault, ToldRun, ToldRuns};
 use std::alloc::Global;
 use std::io::Write;
@@ -41,9 +44,12 @@ fn told_in_memory(
         context.new }
     ensures some { IfOk result (λ run. 1 ≤ run.count) }
     ensures within { IfOk result (λ run. address + run.count ≤ end) }
-    ensures told { IfOk result (λ run. (a : ℕ) → address ≤ a → a < address + run.count
-        → told_named inlines 23 symbolizer.now.order (streams symbolizer.now.bytes) a
-        ≡ run.told) }
+    ensures told { IfOk result
+        (TellsRun (told_named inlines 23 symbolizer.now.order (streams symbolizer.now.bytes)) address) }
+    ensures plain { IfOk result (λ run. IfSome run.told IsPlainTold) }
+    ensures ends { IfOk result (EndsPiece
+        (begins_named 23 symbolizer.now.order (streams symbolizer.now.bytes)) address end) }
+    ensures lookups { OnOk result (context.new.lookups ≤ context.old.lookups + 2) }
 {
     let (place, count) = address_run(symbolizer.address_map(), address, end);
     let place = match place {
@@ -72,6 +78,7 @@ pub struct MemoryTold<'a, E> {
 }
 
 impl<'a, E: Write + Drop> ToldRuns for MemoryTold<'a, E> {
+    ghost use Rattle.pdb_symbols.specs.Lookups.{begins_named};
     ghost use Rattle.pdb_symbols.specs.Told.{told_named};
     ghost use Rattle.pdb_symbols_modules.specs.Streams.{streams};
 
@@ -81,6 +88,11 @@ impl<'a, E: Write + Drop> ToldRuns for MemoryTold<'a, E> {
         (streams t.symbolizer.now.bytes) };
 
     ghost file = { λ t. t.symbolizer.now.bytes };
+
+    ghost begins = { λ t. begins_named 23 t.symbolizer.now.order
+        (streams t.symbolizer.now.bytes) };
+
+    ghost lookups = { λ t. t.context.lookups };
 
     fn prepare(&mut self, addresses: u64) {
         self.progress.begin(addresses);
@@ -95,7 +107,8 @@ impl<'a, E: Write + Drop> ToldRuns for MemoryTold<'a, E> {
 }
 
 /// The text of the records of the functions of a file that is in memory, behind a head: those of
-/// its frames at the addresses at which code may run.
+/// its frames at the addresses at which code may run. The context's count of lookups rises by at
+/// most two for each piece of these.
 ///
 /// # Errors
 /// Out of memory.
@@ -106,11 +119,12 @@ pub fn text_in_memory<E: Write + Drop>(
     runs: &mut MemoryTold<'_, E>,
 ) -> Result<FileText, SymbolsFault>
     ensures memory { IfErr result (λ e. e ≡ ends.Load load_faults.OutOfMemory) }
-    ensures records { IfOk result (λ text.
-        HasRecords (string_bytes text.head) (string_bytes text.functions) (string_bytes head)
-        (symbol_records (answers_of_code sections.now
+    ensures records { IfOk result (TellsCode (string_bytes head) sections.now
         (told_named runs.old.inlines 23 runs.old.symbolizer.now.order
-        (streams runs.old.symbolizer.now.bytes))))) }
+        (streams runs.old.symbolizer.now.bytes))) }
+    ensures lookups { OnOk result (runs.new.context.lookups
+        ≤ runs.old.context.lookups + 2 * pieces_of_code sections.now (begins_named 23
+        runs.old.symbolizer.now.order (streams runs.old.symbolizer.now.bytes))) }
 {
     match text_of(alloc, head, sections, runs) {
         Ok(text) => Ok(text),

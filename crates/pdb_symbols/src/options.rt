@@ -90,21 +90,35 @@ fn with_value(word: &str) -> (&str, Option<&str>) {
     }
 }
 
-/// A place to write to, by the word of the option that names it.
-fn target_of(alloc: Global, kind: Word, value: &str) -> Result<Target, AllocError> {
-    let value = String::from_str(alloc, value)?;
-    if kind == Word::Store {
-        Ok(Target::Store(value))
-    } else {
-        Ok(Target::File(value))
-    }
-}
-
 impl Choices {
     /// Ends the words with an error.
     fn refuse(&mut self, alloc: Global, what: &str, word: &str) -> Result<(), AllocError> {
         let error = format!(in alloc; "{what} '{word}'")?;
         self.ended = Some(Words::Wrong(error));
+        Ok(())
+    }
+
+    /// Ends the words with the error that an option has no value.
+    fn refuse_without_value(&mut self, alloc: Global, kind: Word) -> Result<(), AllocError> {
+        let name = if kind == Word::Store {
+            "--store"
+        } else {
+            "--output"
+        };
+        self.refuse(alloc, "a value is required for", name)
+    }
+
+    /// Takes the value of an option as the place to write to; an empty one is none.
+    fn read_target(&mut self, alloc: Global, kind: Word, value: &str) -> Result<(), AllocError> {
+        if value.is_empty() {
+            return self.refuse_without_value(alloc, kind);
+        }
+        let value = String::from_str(alloc, value)?;
+        self.target = if kind == Word::Store {
+            Target::Store(value)
+        } else {
+            Target::File(value)
+        };
         Ok(())
     }
 
@@ -132,7 +146,7 @@ impl Choices {
         let (name, value) = with_value(word);
         match (word_of(name), value) {
             (kind @ (Word::Output | Word::Store), Some(value)) => {
-                self.target = target_of(alloc, kind, value)?;
+                self.read_target(alloc, kind, value)?;
                 Ok(None)
             }
             (kind @ (Word::Output | Word::Store), None) => Ok(Some(kind)),
@@ -152,15 +166,14 @@ impl Choices {
             }
             wanting = match wanting {
                 Some(kind) => {
-                    self.target = target_of(alloc, kind, word.as_str())?;
+                    self.read_target(alloc, kind, word.as_str())?;
                     None
                 }
                 None => self.read_word(alloc, word.as_str())?,
             };
         }
         match (wanting, &self.ended) {
-            (Some(Word::Store), None) => self.refuse(alloc, "a value is required for", "--store"),
-            (Some(_), None) => self.refuse(alloc, "a value is required for", "--output"),
+            (Some(kind), None) => self.refuse_without_value(alloc, kind),
             _ => Ok(()),
         }
     }

@@ -1,10 +1,10 @@
 //! Texts of records, written with the names of functions as people read them.
 
-ghost use Rattle.std.specs.Prelude.{◌≡◌, ◌++◌, [], ℕ, List, IfErr, OnErr, OnOk};
+ghost use Rattle.std.specs.Prelude.{◌≡◌, [], true, IfErr, OnErr, OnOk};
 ghost use Rattle.std.specs.Io.KnownBytes.{Appends};
 ghost use Rattle.pdb_symbol_files.specs.Output.{AppendsFront};
 ghost use Rattle.pdb_symbols.specs.Ends.{FailsToWrite};
-ghost use Rattle.pdb_symbols.specs.NamedLines.{IsRenamed};
+ghost use Rattle.pdb_symbols.specs.SymbolsText.{WritesNamed, WritesNamedPart};
 ghost use Rattle.pdb_symbols.specs.UnwindingText.{IsPassedOn};
 
 use crate::fault::SymbolsFault;
@@ -54,10 +54,10 @@ pub fn write_renamed<W: Write>(
     text: &str,
     output: &mut W,
 ) -> Result<(), SymbolsFault>
-    ensures ok { OnOk result ((named : List ℕ) × IsRenamed text.now named
-        × Appends (W.contents output.old) (W.contents output.new) named) }
-    ensures part { OnErr result ((named : List ℕ) × IsRenamed text.now named
-        × AppendsFront (W.contents output.old) (W.contents output.new) named) }
+    ensures ok { OnOk result
+        (WritesNamed true text.now (W.contents output.old) (W.contents output.new)) }
+    ensures part { OnErr result
+        (WritesNamedPart true text.now (W.contents output.old) (W.contents output.new)) }
     ensures fails { IfErr result FailsToWrite }
 {
     let mut kept = Vec::new(alloc);

@@ -1,14 +1,17 @@
 //! What a symbol file tells of the places of a database's sections.
 
-ghost use Rattle.std.specs.Prelude.{◌≡◌, ◌<◌, ◌≤◌, ℕ, IfOk, option_and_then};
+ghost use Rattle.std.specs.Prelude.{◌≡◌, ◌+◌, ◌-◌, ◌^◌, ◌≤◌, IfOk, IfSome, OnOk, min};
+ghost use Rattle.std.specs.Prelude.{option_and_then};
 ghost use Rattle.pdb_addr2line.specs.Context.{lasting};
-ghost use Rattle.pdb_databases.specs.Answer.{answered_in, database_in, frames_in, keyed_in};
-ghost use Rattle.pdb_owners.specs.Databases.{on, place_of};
-ghost use Rattle.pdb_symbols.specs.Told.{frames_shown, start_of as start_in, told_found};
-ghost use Rattle.pdb_symbols.specs.Told.{told_place};
+ghost use Rattle.pdb_addr2line.specs.Answer.{answered_in, keyed_in};
+ghost use Rattle.pdb_owners.specs.Databases.{place_of};
+ghost use Rattle.pdb_symbol_files.specs.PlainAnswers.{IsPlainTold};
+ghost use Rattle.pdb_symbols.specs.Lookups.{EndsAtBound, is_bound_for};
+ghost use Rattle.pdb_symbols.specs.Told.{frames_shown, start_of as start_in, TellsPlaces};
+ghost use Rattle.pdb_symbols.specs.Told.{told_found, told_place_in};
 
+use pdb_addr2line::{Error, FileContext};
 use pdb_addresses::PdbInternalSectionOffset;
-use pdb_databases::{Error, FileContext};
 use pdb_owners::{Frame, FunctionFrames, FunctionKey};
 use pdb_symbol_files::{Told, ToldRun, told_of};
 use std::alloc::{AllocError, Global};
@@ -31,7 +34,8 @@ fn tell(
     start: Option<u32>,
     found: &Option<FunctionFrames<'_>>,
 ) -> Result<Option<Told>, AllocError>
-    ensures { IfOk result (λ told. told ≡ told_found inlines start found.now) }
+    ensures is { IfOk result (λ told. told ≡ told_found inlines start found.now) }
+    ensures plain { IfOk result (λ told. IfSome told IsPlainTold) }
 {
     match found {
         Some(found) => told_of(alloc, start, shown(inlines, found.frames.as_slice())),
@@ -57,7 +61,9 @@ fn start_of(
 }
 
 /// What is told of a place, with inlined calls or without, and of how many places from there on,
-/// `limit` at most. Nothing is told where frames can't be read.
+/// `limit` at most. Nothing is told where frames can't be read. No name or file has a control
+/// character. The function and the frames are looked up once each, and the run ends at `limit` or
+/// at the next bound.
 ///
 /// # Errors
 /// `OutOfMemory` alone, also where something has to be read first.
@@ -72,9 +78,12 @@ pub fn told_at_place(
     ensures same { lasting context.new ≡ lasting context.old }
     ensures some { IfOk result (λ run. 1 ≤ run.count) }
     ensures within { IfOk result (λ run. run.count ≤ limit) }
-    ensures told { IfOk result (λ run. (k : ℕ) → k < run.count
-        → told_place inlines (database_in answered_in context.old)
-        (frames_in answered_in context.old) (on (place_of place) k) ≡ run.told) }
+    ensures told { IfOk result
+        (TellsPlaces (told_place_in inlines context.old) (place_of place)) }
+    ensures plain { IfOk result (λ run. IfSome run.told IsPlainTold) }
+    ensures ends { IfOk result (EndsAtBound (is_bound_for context.old) (place_of place) limit) }
+    ensures lookups { OnOk result
+        (context.new.lookups ≡ min (context.old.lookups + 2) (2 ^ 64 - 1)) }
 {
     let (key, of_function) = context.find_key_run(alloc, place, limit)?;
     let start = start_of(alloc, context, &key)?;

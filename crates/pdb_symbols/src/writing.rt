@@ -1,13 +1,13 @@
 //! The symbol file's text.
 
-ghost use Rattle.std.specs.Prelude.{◌≡◌, ◌++◌, ℕ, List, IfErr, IfOk, OnErr, OnOk};
+ghost use Rattle.std.specs.Prelude.{◌≡◌, ◌+◌, ◌*◌, ◌≤◌, IfErr, IfOk, OnErr, OnOk};
 ghost use Rattle.std.specs.Prelude.{option_copied, string_bytes};
 ghost use Rattle.std.specs.Io.KnownBytes.{Appends};
-ghost use Rattle.pdb_symbol_files.specs.Code.{answers_of_code};
-ghost use Rattle.pdb_symbol_files.specs.Records.{symbol_records};
+ghost use Rattle.pdb_symbol_files.specs.Code.{pieces_of_code};
 ghost use Rattle.pdb_symbol_files.specs.Output.{AppendsFront};
 ghost use Rattle.pdb_symbols.specs.Ends.{FailsToWrite};
-ghost use Rattle.pdb_symbols.specs.SymbolsText.{HasRecords, IsNamedInParts, IsNamedText};
+ghost use Rattle.pdb_symbols.specs.SymbolsText.{TellsCode, WritesNamed, WritesNamedPart};
+ghost use Rattle.pdb_symbols.specs.SymbolsText.{WritesText, WritesTextPart};
 ghost use Rattle.pdb_symbols.specs.UnwindingText.{text_of_image};
 
 use crate::fault::SymbolsFault;
@@ -42,9 +42,10 @@ pub fn text_of<R: ToldRuns>(
     ensures grows { R.known runs.new → R.known runs.old }
     ensures same { R.told runs.new ≡ R.told runs.old }
     ensures file { R.file runs.new ≡ R.file runs.old }
-    ensures records { R.known runs.new → IfOk result (λ text.
-        HasRecords (string_bytes text.head) (string_bytes text.functions) (string_bytes head)
-        (symbol_records (answers_of_code sections.now (R.told runs.old)))) }
+    ensures records { R.known runs.new
+        → IfOk result (TellsCode (string_bytes head) sections.now (R.told runs.old)) }
+    ensures lookups { R.known runs.new → OnOk result (R.lookups runs.new
+        ≤ R.lookups runs.old + 2 * pieces_of_code sections.now (R.begins runs.old)) }
 {
     let functions = append_functions(alloc, runs, sections, &mut head)?;
     Ok(FileText { head, functions })
@@ -58,10 +59,10 @@ fn write_records<W: Write>(
     demangle: bool,
     output: &mut W,
 ) -> Result<(), SymbolsFault>
-    ensures ok { OnOk result ((named : List ℕ) × IsNamedText demangle records.now named
-        × Appends (W.contents output.old) (W.contents output.new) named) }
-    ensures part { OnErr result ((named : List ℕ) × IsNamedText demangle records.now named
-        × AppendsFront (W.contents output.old) (W.contents output.new) named) }
+    ensures ok { OnOk result
+        (WritesNamed demangle records.now (W.contents output.old) (W.contents output.new)) }
+    ensures part { OnErr result
+        (WritesNamedPart demangle records.now (W.contents output.old) (W.contents output.new)) }
     ensures fails { IfErr result FailsToWrite }
 {
     if demangle {
@@ -96,7 +97,6 @@ fn write_image<W: Write>(
 ///
 /// # Errors
 /// `Write` where a write failed, or out of memory; a prefix of what is to be written was.
-
 pub fn write_symbols_text<W: Write>(
     alloc: Global,
     text: &FileText,
@@ -104,14 +104,10 @@ pub fn write_symbols_text<W: Write>(
     image: Option<&Image<'_>>,
     output: &mut W,
 ) -> Result<(), SymbolsFault>
-    ensures ok { OnOk result ((named : List ℕ) × IsNamedInParts demangle
-        (string_bytes text.now.head) (string_bytes text.now.functions) named
-        × Appends (W.contents output.old) (W.contents output.new)
-        (named ++ text_of_image (option_copied image.entry))) }
-    ensures part { OnErr result ((named : List ℕ) × IsNamedInParts demangle
-        (string_bytes text.now.head) (string_bytes text.now.functions) named
-        × AppendsFront (W.contents output.old) (W.contents output.new)
-        (named ++ text_of_image (option_copied image.entry))) }
+    ensures ok { OnOk result (WritesText demangle text.now (option_copied image.entry)
+        (W.contents output.old) (W.contents output.new)) }
+    ensures part { OnErr result (WritesTextPart demangle text.now (option_copied image.entry)
+        (W.contents output.old) (W.contents output.new)) }
     ensures fails { IfErr result FailsToWrite }
 {
     write_records(alloc, text.head.as_str(), demangle, output)?;

@@ -7,5 +7,5 @@ pub returns-clause-plain : goal.returns-clause-plain
 returns-clause-plain c = plain_records
 
 pub returns-clause-back : goal.returns-clause-back
-returns-clause-back c = λ answers plain few countable.
-    reads_back (symbol_records answers) (plain_records answers plain few countable)
+returns-clause-back c = λ answers readable.
+    reads_back (symbol_records answers) (plain_records answers readable)

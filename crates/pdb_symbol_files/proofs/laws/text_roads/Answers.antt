@@ -5,6 +5,6 @@ use Rattle.pdb_symbol_files.proofs.SameGroups.{two_roads}
 use Rattle.pdb_symbol_files.proofs.laws.text_roads.Goals as goal
 
 pub returns : goal.returns
-returns c = λ answers ascending plain few countable.
+returns c = λ answers ascending readable.
     text_roads answers (two_roads answers ascending)
-    (reads_back (symbol_records answers) (plain_records answers plain few countable))
+    (reads_back (symbol_records answers) (plain_records answers readable))

@@ -2,7 +2,10 @@ use Rattle.std.proofs.Common.{◌++◌, ◌-◌, ◌∙◌, List, ap, get_or, sy
 use Rattle.std.specs.Prelude.{Option}
 use Rattle.pdb_symbol_files.specs.Code.{answers_along}
 use Rattle.pdb_symbol_files.specs.PieceRecords.{AreOf}
+use Rattle.pdb_symbol_files.specs.PlainAnswers.{ArePlainAnswers, IsPlainAnswer}
 use Rattle.pdb_symbol_files.specs.Told.{Answer, Told}
+use Rattle.pdb_symbol_files.proofs.PieceSteps.{few_ranges}
+use Rattle.pdb_symbol_files.proofs.PlainRecords.{all_both}
 use Rattle.pdb_symbol_files.specs.ToldRanges.{answers_of_ranges}
 use Rattle.pdb_symbol_files.specs.declared.addresses.AddressRange.{AddressRange}
 use Rattle.pdb_symbol_files.proofs.CodeRanges.{ranges_more}
@@ -27,4 +30,17 @@ loop-range-preserved g c =
           ∙ sym (ranges_more told ranges index none c.loop-range-test.true))
           (c.in_ok-add_range.ensures.added known so_far
           (i.of (c.add_range.ensures.grows known)));
+      plain = λ known.
+          subst (λ (xs : List Answer). ArePlainAnswers xs)
+          (ap (λ (t : ℕ → Option Told). so_far ++ answers_along t r.start (r.end - r.start)) i.same
+          ∙ sym (ranges_more told ranges index none c.loop-range-test.true))
+          (all_both IsPlainAnswer so_far
+          (answers_along (g.R.ToldRuns.told c.loop-range.runs) r.start (r.end - r.start))
+          (i.plain (c.add_range.ensures.grows known)) (c.in_ok-add_range.ensures.plain known));
+      pieces = c.add_range.ensures.begins ∙ i.pieces;
+      few = λ known. few_ranges (g.R.ToldRuns.begins c.args.runs.now)
+          (g.R.ToldRuns.begins c.loop-range.runs) ranges index none
+          (g.R.ToldRuns.lookups c.args.runs.now) (g.R.ToldRuns.lookups c.loop-range.runs)
+          (g.R.ToldRuns.lookups c.add_range.new.runs) c.loop-range-test.true i.pieces
+          (i.few (c.add_range.ensures.grows known)) (c.in_ok-add_range.ensures.lookups known);
     }

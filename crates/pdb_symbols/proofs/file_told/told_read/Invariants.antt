@@ -10,4 +10,5 @@ invariant-loop g l = record {
   flags : l.symbolizer.flags ≡ l.fn.symbolizer.flags;
   held : l.symbolizer.held ≡ l.fn.symbolizer.held;
   grows : Grows l.fn.symbolizer.views l.symbolizer.views;
+  lookups : l.lookups ≡ l.fn.lookups;
 }

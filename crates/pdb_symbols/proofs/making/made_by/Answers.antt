@@ -2,7 +2,7 @@ use Rattle.std.proofs.Common.{◌∙◌, refl, false}
 use Rattle.std.specs.Prelude.{option_copied}
 use Rattle.std.proofs.lemmas.Result.{err_from_is_err_and}
 use Rattle.pdb_symbols.specs.Described.{asked_of}
-use Rattle.pdb_symbols.proofs.MakingSteps.{identity_fails, image_fails, made_ok}
+use Rattle.pdb_symbols.proofs.MakingSteps.{few_lookups, identity_fails, image_fails, made_ok}
 use Rattle.pdb_symbols.proofs.making.made_by.Goals as goal
 
 pub returns-in_err-identity-clause-failed : goal.returns-in_err-identity-clause-failed
@@ -25,3 +25,9 @@ returns-clause-ok g c =
     c.in_ok-identity.ensures.identity c.in_ok-described.ensures.image
     c.in_ok-described.ensures.first
     (c.as_slice.ensures.value ∙ c.in_ok-described.ensures.sections) c.in_ok-text.ensures.records
+
+pub returns-clause-lookups : goal.returns-clause-lookups
+returns-clause-lookups g c =
+    few_lookups _ _ _ _ _ _ _ c.requires.order c.held-held.ensures
+    (c.as_slice.ensures.value ∙ c.in_ok-described.ensures.sections) c.in_ok-context.ensures.unasked
+    c.lookups-lookups.ensures c.in_ok-text.ensures.lookups

@@ -1,5 +1,6 @@
 use Rattle.pdb_symbols_modules.specs.Streams.{streams}
-use Rattle.pdb_symbols.proofs.ToldSteps.{answers_on, context_told, none_told, run_told}
+use Rattle.pdb_symbols.proofs.ToldSteps.{answers_on, breaks_begin, context_bound, context_told, none_told}
+use Rattle.pdb_symbols.proofs.ToldSteps.{run_ends, run_told}
 use Rattle.pdb_owners.specs.Databases.{on, place_of}
 use Rattle.pdb_symbols.proofs.memory_told.told_in_memory.Goals as goal
 
@@ -9,6 +10,22 @@ returns-in-None-clause-told c =
     c.address_map.result.now c.args.address c.address_run-place.result.1
     c.address_run-place.result.0 c.address_map.ensures.map c.in-None.is
     c.address_run-place.ensures.along
+
+pub returns-in-None-clause-ends : goal.returns-in-None-clause-ends
+returns-in-None-clause-ends c =
+    λ lt. breaks_begin 23 c.args.symbolizer.now.order (streams c.args.symbolizer.now.bytes)
+    c.address_map.result.now _ c.address_map.ensures.map (c.address_run-place.ensures.ends lt)
+
+pub returns-in-Ok-clause-ends : goal.returns-in-Ok-clause-ends
+returns-in-Ok-clause-ends c =
+    run_ends 23 c.args.symbolizer.now.order (streams c.args.symbolizer.now.bytes)
+    c.address_map.result.now c.args.address c.args.end c.address_run-place.result.1
+    c.in-Ok.run'.count c.address_run-place.result.0 c.in-Some.place c.address_map.ensures.map
+    c.in-Some.is c.address_run-place.ensures.along c.address_run-place.ensures.ends
+    c.in-Ok.ensures.within
+    (λ less. context_bound 23 c.args.symbolizer.now.order (streams c.args.symbolizer.now.bytes)
+    c.args.context.now (on (place_of c.in-Some.place) c.in-Ok.run'.count) c.requires.answers
+    (c.in-Ok.ensures.ends less))
 
 pub returns-in-Ok-clause-answers : goal.returns-in-Ok-clause-answers
 returns-in-Ok-clause-answers c =

@@ -1,7 +1,7 @@
 use Rattle.std.proofs.Common.{List, ◌∙◌, ap, string_bytes}
 use Rattle.pdb_symbol_files.specs.PieceRecords.{AreOf, SoFar}
 use Rattle.pdb_symbol_files.specs.Told.{Answer}
-use Rattle.pdb_symbol_files.proofs.Adding.{functions_end, numbers_written}
+use Rattle.pdb_symbol_files.proofs.Adding.{few_numbers, functions_end, numbers_written}
 use Rattle.pdb_symbol_files.proofs.functions.FunctionRecords.finish.Goals as goal
 
 pub returns-clause-numbers : goal.returns-clause-numbers
@@ -12,10 +12,18 @@ returns-clause-numbers c =
     (string_bytes c.append_records-2.new.output)
     (c.numbers.view_is
     ∙ ap (λ (s : SoFar). s.numbers) (c.records.view_is ∙ c.in_ok-end_function.ensures))
-    c.in_ok-append_records.ensures c.in_ok-append_records-2.ensures
+    c.in_ok-append_records.ensures.text c.in_ok-append_records-2.ensures.text
 
 pub returns-clause-functions : goal.returns-clause-functions
 returns-clause-functions c =
     λ (answers : List Answer) (are : AreOf c.args.self answers).
     ap (λ (s : SoFar). s.text) (c.records.view_is ∙ c.in_ok-end_function.ensures)
     ∙ functions_end c.args.self answers are
+
+pub returns-clause-few : goal.returns-clause-few
+returns-clause-few c =
+    λ (answers : List Answer) (are : AreOf c.args.self answers).
+    few_numbers c.args.self answers are c.numbers.inside.files c.numbers.inside.origins
+    (c.numbers.view_is
+    ∙ ap (λ (s : SoFar). s.numbers) (c.records.view_is ∙ c.in_ok-end_function.ensures))
+    c.in_ok-append_records.ensures.few c.in_ok-append_records-2.ensures.few

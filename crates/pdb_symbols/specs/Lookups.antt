@@ -1,0 +1,104 @@
+-- At which addresses something else may be told than of the one before, so that a database is
+-- looked up again.
+use Rattle.std.specs.Prelude.{◌≡◌, ℕ, ◌-◌, ◌*◌, ◌<◌, ◌≤◌, Bool, true, false, not, ◌&&◌, ◌||◌, ◌==◌, is_some}
+use Rattle.std.specs.Prelude.{List, Option, None, Some, Result, Ok, Err}
+use Rattle.pdb_addresses.specs.Addresses.{Map, inner, inner_place}
+use Rattle.pdb_addresses.specs.Places.{Place}
+use Rattle.pdb_addresses.specs.Ranges.{kept, number_for}
+use Rattle.pdb_addresses.specs.declared.omap.OMAPRecord.{OMAPRecord}
+use Rattle.pdb_addresses.specs.declared.sections.ImageSectionHeader.{ImageSectionHeader}
+use Rattle.pdb_addr2line.specs.Context.{Context}
+use Rattle.pdb_addr2line.specs.Answer.{answered_in, database_in, database_named, frames_in}
+use Rattle.pdb_addr2line.specs.Answer.{frames_named, map_with}
+use Rattle.pdb_addr2line.specs.FileAnswers.{FileAnswers}
+use Rattle.pdb_loading.specs.Loading.{Loaded, LoadingFault, loaded_with}
+use Rattle.pdb_loading.specs.ModuleInfos.{KeptInfo}
+use Rattle.pdb_loading.specs.declared.order.ContributionOrder.{ContributionOrder}
+use Rattle.pdb_loading.specs.declared.order.ContributionOrder.TheVariants.{Any}
+use Rattle.pdb_owners.specs.Counts.{is_bound_in, is_section_bound}
+use Rattle.pdb_owners.specs.Databases.{Database, on}
+use Rattle.pdb_owners.specs.Frames.{FunctionFrames}
+use Rattle.pdb_owners.specs.FunctionOrder.{Function}
+use Rattle.pdb_symbol_files.specs.Code.{pieces_of_code}
+use Rattle.pdb_symbol_files.specs.declared.told_runs.ToldRun.{ToldRun}
+use Rattle.pdb_symbols_modules.specs.Shared.{shared}
+use Rattle.pdb_symbols_modules.specs.Streams.{Streams, streams}
+
+-- ---- places
+
+-- a place is a bound of the functions, or of the frames
+abbrev pub is_bound_of : Database Function → Database (Option FunctionFrames) → Place → Bool
+is_bound_of functions frames p = functions.is_bound p || frames.is_bound p
+
+-- the same by what a context answers
+abbrev pub is_bound_for : Context (List KeptInfo) → Place → Bool
+is_bound_for c p = is_bound_of (database_in answered_in c) (frames_in answered_in c) p
+
+-- the same by a file that is read on demand
+abbrev pub is_bound_by : FileAnswers → Place → Bool
+is_bound_by f p =
+    is_bound_of (database_named f.flags f.order (streams f.contents))
+    (frames_named f.flags f.order (streams f.contents)) p
+
+-- a run from a place on goes on to a limit, or to a bound
+abbrev pub EndsAtBound : (Place → Bool) → Place → ℕ → ToldRun → Type 0
+EndsAtBound is_bound p limit run = run.count < limit → is_bound (on p run.count) ≡ true
+
+-- ---- addresses
+
+-- an address goes on from the one before it: both become something, by one record of the OMAP
+abbrev pub goes_on : Option (List OMAPRecord) → ℕ → Bool
+goes_on omap a =
+    is_some (kept omap (a - 1))
+    && (is_some (kept omap a) && (number_for omap (a - 1) == number_for omap a))
+
+-- whether a section begins or ends at an internal address, if there is one
+abbrev pub is_bound_at : List ImageSectionHeader → Option ℕ → Bool
+is_bound_at sections None = false
+is_bound_at sections (Some x) = is_section_bound sections x
+
+-- places may no longer follow each other at an address: it doesn't go on from the one before it, or
+-- a section begins or ends at its internal address
+abbrev pub breaks : Map → ℕ → Bool
+breaks m a = not (goes_on m.to_internal a) || is_bound_at m.internal (inner m a)
+
+-- a piece begins at an address: places may no longer follow each other, or its place is a bound of
+-- the functions or of the frames
+abbrev pub begins_by : Map → Database Function → Database (Option FunctionFrames) → ℕ → Bool
+begins_by m functions frames a =
+    breaks m a
+    || (is_bound_in functions (inner_place m a) || is_bound_in frames (inner_place m a))
+
+abbrev pub begins_if : Option Map → Database Function → Database (Option FunctionFrames) → ℕ → Bool
+begins_if None functions frames a = false
+begins_if (Some m) functions frames a = begins_by m functions frames a
+
+-- the same by a file's streams; nowhere in one that isn't loaded
+unfoldable pub begins_named : ℕ → ContributionOrder → Streams → ℕ → Bool
+begins_named flags order s a =
+    begins_if (map_with order s) (database_named flags order s) (frames_named flags order s) a
+
+-- the same by a file that is read on demand
+abbrev pub begins_of : FileAnswers → ℕ → Bool
+begins_of f = begins_named f.flags f.order (streams f.contents)
+
+-- how many pieces the addresses have at which code may run, by what was loaded of a file
+abbrev pub pieces_by : Streams → Result Loaded LoadingFault → ℕ
+pieces_by s (Ok l) = pieces_of_code l.tables.map.image (begins_named 23 Any s)
+pieces_by s (Err e) = 0
+
+-- how many pieces the addresses of a file have at which code may run; none of one that isn't loaded
+unfoldable pub pieces_in : Streams → ℕ
+pieces_in s = pieces_by s (loaded_with Any (shared s))
+
+-- ---- counts
+
+-- so many lookups are at most two for each piece of a file
+abbrev pub AreFewLookups : List ℕ → ℕ → Type 0
+AreFewLookups file lookups = lookups ≤ 2 * pieces_in (streams file)
+
+-- by how much a context's count of lookups rose
+abbrev pub rise : Option (Context (List KeptInfo)) → Option (Context (List KeptInfo)) → ℕ
+rise (Some old) (Some new) = new.lookups - old.lookups
+rise (Some old) None = 0
+rise None new = 0

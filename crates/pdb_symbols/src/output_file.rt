@@ -1,0 +1,170 @@
+//! Files that symbol files are written to.
+
+ghost use Rattle.std.specs.Prelude.{IfErr};
+ghost use Rattle.pdb_symbols.specs.Ends.{FailsToWrite};
+
+use crate::fault::SymbolsFault;
+use crate::options::{Options, Target};
+use std::alloc::{AllocError, Global};
+use std::fs;
+use std::fs::{File, Metadata};
+use std::io::{self, ErrorKind};
+use std::os::unix::fs::MetadataExt;
+use std::rt::Files;
+
+/// How many names beside a path are tried.
+const NAMES: u32 = 1000;
+
+/// Where a write failed.
+pub fn write_fault<T>(outcome: io::Result<T>) -> Result<T, SymbolsFault>
+    ensures { IfErr result FailsToWrite }
+{
+    match outcome {
+        Ok(done) => Ok(done),
+        Err(error) => Err(SymbolsFault::of_write(error.kind())),
+    }
+}
+
+/// The names of a file that is renamed once it is whole.
+#[derive(Drop)]
+struct Renaming {
+    /// Its path while it is written.
+    beside: String,
+    /// The path that it has once it is whole.
+    path: String,
+}
+
+/// A file that is written.
+#[derive(Drop)]
+pub struct OutputFile<F: Drop> {
+    /// The file.
+    pub file: F,
+    /// How it is renamed, where it is written beside its path.
+    renaming: Option<Renaming>,
+}
+
+/// Whether what stands at a path is written into: a link, a device, a FIFO. A regular file is
+/// replaced.
+fn is_written_into(rt: &impl Files, path: &str) -> Result<bool, SymbolsFault>
+    ensures { IfErr result FailsToWrite }
+{
+    match fs::symlink_metadata(rt, path) {
+        Ok(metadata) => Ok(!metadata.is_file()),
+        Err(error) if error.kind() == ErrorKind::NotFound => Ok(false),
+        Err(error) => Err(SymbolsFault::of_write(error.kind())),
+    }
+}
+
+/// A path beside another one: `.part` after it, and a number from the second one on.
+fn path_beside(alloc: Global, path: &str, number: u32) -> Result<String, AllocError> {
+    if number == 0 {
+        format!(in alloc; "{path}.part")
+    } else {
+        format!(in alloc; "{path}.part{number}")
+    }
+}
+
+/// Creates a file beside the path that it is to have. No file has its name before.
+fn create_beside<S: Files + AllocGlobal>(
+    rt: &S,
+    path: String,
+) -> Result<OutputFile<S::File>, SymbolsFault>
+    ensures { IfErr result FailsToWrite }
+{
+    for number in 0..NAMES {
+        let beside = path_beside(rt.alloc(), path.as_str(), number)?;
+        match File::create_new(rt, beside.as_str()) {
+            Ok(file) => {
+                let renaming = Some(Renaming { beside, path });
+                return Ok(OutputFile { file, renaming });
+            }
+            Err(error) if error.kind() == ErrorKind::AlreadyExists => {}
+            Err(error) => return Err(SymbolsFault::of_write(error.kind())),
+        }
+    }
+    Err(SymbolsFault::of_write(ErrorKind::AlreadyExists))
+}
+
+/// Opens the file at a path for writing. A link, a device or a FIFO is written into. A regular
+/// file, which may be there or not, is written beside the path.
+///
+/// # Errors
+/// `Write`, or out of memory.
+pub fn open_output<S: Files + AllocGlobal>(
+    rt: &S,
+    path: String,
+) -> Result<OutputFile<S::File>, SymbolsFault>
+    ensures { IfErr result FailsToWrite }
+{
+    if !is_written_into(rt, path.as_str())? {
+        return create_beside(rt, path);
+    }
+    let file = write_fault(fs::create(rt, path.as_str()))?;
+    Ok(OutputFile {
+        file,
+        renaming: None,
+    })
+}
+
+impl<F: Drop> OutputFile<F> {
+    /// Ends what was written: a file beside its path is renamed if it is whole, and else removed.
+    ///
+    /// # Errors
+    /// As the write's; `Write` where the file can't be renamed.
+    pub fn end(
+        self,
+        rt: &impl Files,
+        written: Result<(), SymbolsFault>,
+    ) -> Result<(), SymbolsFault> {
+        let OutputFile { file, renaming } = self;
+        drop(file);
+        let Some(Renaming { beside, path }) = renaming else {
+            return written;
+        };
+        let outcome = match written {
+            Ok(()) => write_fault(fs::rename(rt, beside.as_str(), path.as_str())),
+            Err(fault) => Err(fault),
+        };
+        if outcome.is_err() {
+            let _ = fs::remove_file(rt, beside.as_str());
+        }
+        outcome
+    }
+}
+
+/// The regular file that a path leads to; `None` where it leads to none, or can't be followed.
+fn regular_at(rt: &impl Files, path: &str) -> Result<Option<Metadata>, SymbolsFault> {
+    match fs::metadata(rt, path) {
+        Ok(metadata) if metadata.is_file() => Ok(Some(metadata)),
+        Err(error) if error.kind() == ErrorKind::OutOfMemory => Err(SymbolsFault::out_of_memory()),
+        _ => Ok(None),
+    }
+}
+
+/// Whether a path leads to a regular file.
+fn leads_to(rt: &impl Files, path: &str, file: &Metadata) -> Result<bool, SymbolsFault> {
+    match regular_at(rt, path)? {
+        Some(found) => Ok(found.dev() == file.dev() && found.ino() == file.ino()),
+        None => Ok(false),
+    }
+}
+
+/// Whether the file that is written is the database or the image, by whatever path.
+///
+/// # Errors
+/// Out of memory.
+pub fn is_output_read(rt: &impl Files, options: &Options) -> Result<bool, SymbolsFault> {
+    let Target::File(path) = &options.target else {
+        return Ok(false);
+    };
+    let Some(output) = regular_at(rt, path.as_str())? else {
+        return Ok(false);
+    };
+    if leads_to(rt, options.file.as_str(), &output)? {
+        return Ok(true);
+    }
+    match &options.image {
+        Some(image) => leads_to(rt, image.as_str(), &output),
+        None => Ok(false),
+    }
+}
