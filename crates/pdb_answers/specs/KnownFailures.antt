@@ -1,8 +1,8 @@
 -- What is known of functions that were asked for and whose frames can't be read.
-use Rattle.std.specs.Prelude.{◌≡◌, ℕ, Option, Some}
+use Rattle.std.specs.Prelude.{◌≡◌, ℕ, Option, Some, IfSome}
 use Rattle.std.specs.BTreeMap.{get}
 use Rattle.std.specs.Ordering.{nat_cmp}
-use Rattle.pdb_indices.specs.declared.numbers.SymbolIndex.{SymbolIndex}
+use Rattle.pdb_container.specs.declared.index_numbers.SymbolIndex.{SymbolIndex}
 use Rattle.pdb_addresses.specs.declared.internal_section_offset.PdbInternalSectionOffset.{
   PdbInternalSectionOffset,
 }
@@ -59,7 +59,24 @@ pub record AreFailuresOf (own : ℕ → Option ModuleData) (known : KnownFailure
   pub each : (n : ℕ) (one : KnownFailure) → get nat_cmp known.by_number n ≡ Some one
       → IsFailureOf own one
 
+-- A part, if one is given, is the first that can't be read in a chosen function of the module with
+-- that index, where all that is known is so.
+abbrev pub IsKnownIn : KnownFailures → ℕ → Chosen → Option Part → Type 0
+IsKnownIn known m c result = (own : ℕ → Option ModuleData) → AreFailuresOf own known
+    → IfSome result (λ part. failing_in m (own m) c ≡ Some part)
+
+-- What is known stays so, where this part is the first that can't be read in a chosen function of
+-- the module with that index.
+abbrev pub StayFailuresWith : ℕ → Chosen → Part → KnownFailures → KnownFailures → Type 0
+StayFailuresWith m c part old new = (own : ℕ → Option ModuleData)
+    → failing_in m (own m) c ≡ Some part → AreFailuresOf own old → AreFailuresOf own new
+
 -- the data of the module with that index, by what gives modules, and the list of modules
+abbrev pub data_among : {P : Type 0} → (P → Provided) → P → Formatting P → ℕ → Option ModuleData
+data_among provided provider f n = module_data (own_of (provided provider) (entries_of f) n)
+
+-- the same, which proofs open where they need it
+
 unfoldable pub data_of_modules :
     {P : Type 0} → (P → Provided) → P → Formatting P → ℕ → Option ModuleData
-data_of_modules provided provider f n = module_data (own_of (provided provider) (entries_of f) n)
+data_of_modules provided provider f n = data_among provided provider f n

@@ -1,3 +1,4 @@
+pub mod FailedLaws
 pub mod FileOrNothing
 pub mod KnownFailures
 pub mod PlaceAnswers

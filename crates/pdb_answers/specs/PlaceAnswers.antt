@@ -1,5 +1,6 @@
 -- What a symbolizer answers at places.
-use Rattle.std.specs.Prelude.{◌≡◌, ◌||◌, ℕ, Bool, Option, Some, Result, IfOk, option_copied}
+use Rattle.std.specs.Prelude.{◌≡◌, ◌||◌, ℕ, Bool, Option, Some, Result, Ok, IfOk, IfSome}
+use Rattle.std.specs.Prelude.{option_and_then, option_copied, slice_get}
 use Rattle.pdb_addresses.specs.declared.internal_section_offset.PdbInternalSectionOffset.{
   PdbInternalSectionOffset,
 }
@@ -11,18 +12,21 @@ use Rattle.pdb_answers.specs.Symbolizers.{Symbolizer, scope_in}
 use Rattle.pdb_contributions.specs.declared.contribution.ModuleSectionContribution.{
   ModuleSectionContribution,
 }
-use Rattle.pdb_frames.specs.Choice.{Chosen, Parts, held_at, start_address}
+use Rattle.pdb_frames.specs.Choice.{Chosen, Parts, chosen_in, held_at, start_address}
 use Rattle.pdb_frames.specs.ChosenSeen.{chosen_seen}
+use Rattle.pdb_frames.specs.declared.choice.Chosen as chosen
 use Rattle.pdb_frames.specs.declared.file_runs.Stretch.{Stretch}
+use Rattle.pdb_frames.specs.Env.{Env}
 use Rattle.pdb_frames.specs.Failing.{Part, ProcedureInlineRanges, ProcedureLines}
 use Rattle.pdb_frames.specs.Failing.{failing_at, failing_if_held}
-use Rattle.pdb_frames.specs.FailingParts.{Failures, failing_in, has_failed, told}
+use Rattle.pdb_frames.specs.FailingParts.{Failures, failed_after, failing_in, has_failed, told}
 use Rattle.pdb_frames.specs.FileRuns.{file_run_at, file_run_of, run_reported}
 use Rattle.pdb_frames.specs.Files.{file_here, files_of}
 use Rattle.pdb_frames.specs.FrameRuns.{cuts_in, frames_here, frames_of_places, frames_run_at}
 use Rattle.pdb_frames.specs.FrameRuns.{readable, run_of_answer}
 use Rattle.pdb_frames.specs.FramesAt.{frames_at, frames_if_held, frames_of_chosen, function_at}
-use Rattle.pdb_frames.specs.Keys.{function_by}
+use Rattle.pdb_frames.specs.FramesAt.{function_of}
+use Rattle.pdb_frames.specs.Keys.{chosen_by, function_by}
 use Rattle.pdb_frames.specs.NearBounds.{bounds_near}
 use Rattle.pdb_frames.specs.Printing.{Formatting, env_of}
 use Rattle.pdb_frames.specs.Runs.{database_of, function_here, procedures_of}
@@ -32,10 +36,10 @@ use Rattle.pdb_owners.specs.declared.function_key.FunctionKey.{FunctionKey}
 use Rattle.pdb_owners.specs.FileAnswers.{FileAnswer}
 use Rattle.pdb_owners.specs.Frames.{FunctionFrames}
 use Rattle.pdb_owners.specs.FunctionOrder.{Function}
-use Rattle.pdb_known_modules.specs.KnownModules.{ModuleData}
+use Rattle.pdb_known_modules.specs.KnownModules.{ModuleData, procedures_in}
 use Rattle.pdb_module_data.specs.Procedures.{Procedure}
 use Rattle.pdb_resolving.specs.declared.error.Error.{Error}
-use Rattle.pdb_resolving.specs.Fault.{Fault}
+use Rattle.pdb_resolving.specs.Fault.{Answers, Fault}
 use Rattle.pdb_resolving.specs.Resolving.{Provided}
 
 -- ---- at a place in a chosen function
@@ -65,6 +69,12 @@ frames_found provided f parts found = frames_of_chosen parts (env_of provided f 
 abbrev pub failing_found : Found → Option Part
 failing_found found = failing_in found.module_index found.known found.chosen
 
+-- the frames there, where a part that stands as failed has a fault of its own
+abbrev pub told_found : {P I : Type 0} → (P → Provided) → Formatting P → Parts → Failures
+    → ChosenPlace I → Result (Option FunctionFrames) Fault
+told_found provided f parts failed place = let found = found_seen place in
+    told failed (failing_found found) (frames_found provided f parts found)
+
 -- the frames there, and how far they go on: up to where a row of them begins or ends
 abbrev pub run_found : {P : Type 0} → (P → Provided) → Formatting P → Parts → Found → ℕ
     → Option FunctionFrames × ℕ
@@ -85,15 +95,58 @@ abbrev pub IfFailuresOf : ℕ → Option ModuleData → KnownFailures → Type 0
 IfFailuresOf number known failures P = (own : ℕ → Option ModuleData) → own number ≡ known
     → AreFailuresOf own failures → P
 
+-- the same, where what is known of parts that can't be read is so
+abbrev pub RunsFileGiven : {E : Type 0} → Parts → KnownFailures → Option ModuleData
+    → chosen.Chosen → Stretch → Result (Option FileKey × ℕ) E → Type 0
+RunsFileGiven parts failures known c stretch result =
+    IfFailuresOf stretch.module_index known failures
+    (RunsFile parts known (chosen_seen c) stretch result)
+
 -- What is known of parts that can't be read stays so, by the data of the module with that index.
 abbrev pub StayFailuresOf : ℕ → Option ModuleData → KnownFailures → KnownFailures → Type 0
 StayFailuresOf number known old new = (own : ℕ → Option ModuleData) → own number ≡ known
     → AreFailuresOf own old → AreFailuresOf own new
 
+-- the same by the data of the module of a place, or of a stretch
+abbrev pub StayFailuresAt : Found → KnownFailures → KnownFailures → Type 0
+StayFailuresAt found old new = StayFailuresOf found.module_index found.known old new
+
+abbrev pub StayFailuresOver : Stretch → Option ModuleData → KnownFailures → KnownFailures → Type 0
+StayFailuresOver stretch known old new = StayFailuresOf stretch.module_index known old new
+
 -- whether the line rows or the inline sites of a procedure stand as failed
 abbrev pub stands_failed : Failures → ℕ → Procedure → Bool
 stands_failed failed number q = has_failed failed (ProcedureLines number q.offset)
     || has_failed failed (ProcedureInlineRanges number q.offset)
+
+-- what was returned says so of the procedure with that number in a module, if there is one
+abbrev pub SaysWhetherFailed : Failures → ℕ → Option ModuleData → ℕ → Bool → Type 0
+SaysWhetherFailed failed m known number result =
+    IfSome (slice_get (procedures_in known) number) (λ q. result ≡ stands_failed failed m q)
+
+-- a call gave the function that was chosen, by what names it
+abbrev pub AnswersFunction : Parts → Env → chosen.Chosen → Result (Option Function) Error → Type 0
+AnswersFunction parts env c result =
+    Answers (λ f. f) result (Ok (function_of parts env (chosen_seen c)))
+
+-- ---- keys
+
+-- what a key chooses, by the data of its module
+abbrev pub chosen_by_key : Parts → Option ModuleData → FunctionKey → Option Chosen
+chosen_by_key parts known key = chosen_by parts (procedures_in known) key
+
+-- a key chooses what is chosen at a place that a contribution holds; without one nothing is
+abbrev pub IsKeyOfChosen : Parts → Option ModuleData → ModuleSectionContribution
+    → PdbInternalSectionOffset → Option FunctionKey → Type 0
+IsKeyOfChosen parts known held place key =
+    option_and_then (chosen_by_key parts known) key ≡ chosen_in parts known held place
+
+-- A call gave a key of this answer, by what keys stand for, and none for no answer. It gave a
+-- number, too, of which this says nothing.
+abbrev pub GivesKey : {K A : Type 0} → (K → Option A) → Option A → Result (Option K × ℕ) Error
+    → Type 0
+GivesKey answer_of answer result =
+    Answers (λ run. option_and_then answer_of run.0) result (Ok answer)
 
 -- ---- at a place that a contribution holds
 
@@ -114,6 +167,18 @@ abbrev pub failing_held : {P : Type 0} → (P → Provided) → Symbolizer P →
     → PdbInternalSectionOffset → Option Part
 failing_held provided s held place =
     failing_at s.parts (scope_in provided s held.module_index) held place
+
+-- the frames, where a part that stands as failed has a fault of its own
+abbrev pub told_held : {P : Type 0} → (P → Provided) → Symbolizer P → ModuleSectionContribution
+    → PdbInternalSectionOffset → Result (Option FunctionFrames) Fault
+told_held provided s held place =
+    told s.failed (failing_held provided s held place) (frames_held provided s held place)
+
+-- what stands as failed after this answer
+abbrev pub failed_held : {A P : Type 0} → (P → Provided) → Symbolizer P → ModuleSectionContribution
+    → PdbInternalSectionOffset → Result A Error → Failures
+failed_held provided s held place result =
+    failed_after (failing_held provided s held place) result s.failed
 
 -- the frames, and how far they go on
 abbrev pub frames_run_held : {P : Type 0} → (P → Provided) → Symbolizer P
@@ -163,6 +228,11 @@ function_on provided s place = function_here s.parts (scope_in provided s) place
 abbrev pub function_of_key : {P : Type 0} → (P → Provided) → Symbolizer P → FunctionKey
     → Option Function
 function_of_key provided s key = function_by s.parts (scope_in provided s) key
+
+-- a call gave a key of this function
+abbrev pub GivesFunctionKey : {P : Type 0} → (P → Provided) → Symbolizer P → Option Function
+    → Result (Option FunctionKey × ℕ) Error → Type 0
+GivesFunctionKey provided s function result = GivesKey (function_of_key provided s) function result
 
 -- the file
 abbrev pub file_on : {P : Type 0} → (P → Provided) → Symbolizer P → PdbInternalSectionOffset

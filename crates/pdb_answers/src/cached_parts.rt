@@ -1,8 +1,7 @@
 //! What is read and cached for an answer at a place.
 
-ghost use Rattle.std.specs.Prelude.{◌≡◌, IfSome, option_copied, slice_get};
-ghost use Rattle.pdb_answers.specs.PlaceAnswers.{stands_failed};
-ghost use Rattle.pdb_known_modules.specs.KnownModules.{procedures_in};
+ghost use Rattle.std.specs.Prelude.{◌≡◌, option_copied};
+ghost use Rattle.pdb_answers.specs.PlaceAnswers.{SaysWhetherFailed};
 
 use pdb_addresses::PdbInternalSectionOffset;
 use pdb_contributions::ModuleSectionContribution;
@@ -58,8 +57,7 @@ fn stands_in_part<I: ModuleTables>(
     number: usize,
     module_index: u16,
 ) -> bool
-    ensures { IfSome (slice_get (procedures_in (option_copied known.entry)) number)
-        (λ q. result ≡ stands_failed failed.now module_index q) }
+    ensures { SaysWhetherFailed failed.now module_index (option_copied known.entry) number result }
 {
     match procedure_numbered(known, number) {
         None => false,

@@ -3,17 +3,16 @@
 ghost use Rattle.std.specs.Prelude.{◌≡◌, ◌≤◌, IfOk, Ok, Some};
 ghost use Rattle.std.specs.Prelude.{option_and_then, option_copied};
 ghost use Rattle.pdb_answers.specs.FileOrNothing.{file_or_nothing};
-ghost use Rattle.pdb_answers.specs.PlaceAnswers.{IfFailuresOf, IsRunOf, RunsFile};
-ghost use Rattle.pdb_answers.specs.PlaceAnswers.{StayFailuresOf, file_on, file_run_held};
-ghost use Rattle.pdb_answers.specs.PlaceAnswers.{files_in};
-ghost use Rattle.pdb_frames.specs.Choice.{start_address};
+ghost use Rattle.pdb_answers.specs.PlaceAnswers.{GivesKey, IsRunOf, RunsFile, RunsFileGiven};
+ghost use Rattle.pdb_answers.specs.PlaceAnswers.{StayFailuresOf, StayFailuresOver, file_on};
+ghost use Rattle.pdb_answers.specs.PlaceAnswers.{file_run_held, files_in};
+ghost use Rattle.pdb_frames.specs.Choice.{NumbersOver, start_address};
 ghost use Rattle.pdb_frames.specs.FileRuns.{run_if_addressed as addressed_run};
 ghost use Rattle.pdb_frames.specs.Files.{file_by, if_any};
 ghost use Rattle.pdb_frames.specs.ChosenSeen.{chosen_seen};
 ghost use Rattle.pdb_owners.specs.FileAnswers.{file_seen};
 ghost use Rattle.pdb_known_modules.specs.CachedModules.{known_in};
-ghost use Rattle.pdb_known_modules.specs.KnownModules.{procedure_if_numbered, procedures_in};
-ghost use Rattle.pdb_module_data.specs.Procedures.{over};
+ghost use Rattle.pdb_known_modules.specs.KnownModules.{procedures_in};
 ghost use Rattle.pdb_resolving.specs.Fault.{Answers};
 
 use crate::cached_parts::{HeldPlace, keep_parts};
@@ -60,7 +59,7 @@ pub(crate) fn keep_failure<I: ModuleTables>(
 {
     match failing_in(alloc, module_index, known, chosen)? {
         None => Ok(()),
-        Some(part) => known_failures.keep(module_index, chosen, part),
+        Some(part) => known_failures.keep_first_failing(module_index, chosen, part),
     }
 }
 
@@ -74,8 +73,8 @@ fn read_run<I: ModuleTables>(
     chosen: Chosen<'_, '_>,
     stretch: Stretch,
 ) -> std::result::Result<(Option<FileKey>, u32), AllocError>
-    ensures known { StayFailuresOf stretch.module_index (option_copied known.entry)
-        known_failures.old known_failures.new }
+    ensures known { StayFailuresOver stretch (option_copied known.entry) known_failures.old
+        known_failures.new }
     ensures run { RunsFile parts.now (option_copied known.entry) (chosen_seen chosen.entry) stretch
         result }
 {
@@ -100,10 +99,10 @@ fn run_unless_known<I: ModuleTables>(
     chosen: Chosen<'_, '_>,
     stretch: Stretch,
 ) -> std::result::Result<(Option<FileKey>, u32), AllocError>
-    ensures known { StayFailuresOf stretch.module_index (option_copied known.entry)
-        known_failures.old known_failures.new }
-    ensures run { IfFailuresOf stretch.module_index (option_copied known.entry) known_failures.old
-        (RunsFile parts.now (option_copied known.entry) (chosen_seen chosen.entry) stretch result) }
+    ensures known { StayFailuresOver stretch (option_copied known.entry) known_failures.old
+        known_failures.new }
+    ensures run { RunsFileGiven parts.now known_failures.old (option_copied known.entry)
+        chosen.entry stretch result }
 {
     match known_failures.part(stretch.module_index, chosen) {
         Some(_) => Ok((Some(FileKey::Unreadable), stretch.far)),
@@ -119,8 +118,7 @@ fn is_known_unreadable<'c, 'a, I: ModuleTables>(
     known: Option<&'c BasicModuleInfo<'a, I>>,
     held: HeldPlace,
 ) -> bool
-    requires { procedure_if_numbered (procedures_in (option_copied known)) held.number
-        ≡ over (procedures_in (option_copied known)) held.place }
+    requires { NumbersOver (procedures_in (option_copied known)) held.number held.place }
 {
     match choose(parts, known, held.number, held.contribution, held.place) {
         None => false,
@@ -141,8 +139,8 @@ pub(crate) fn keep_rows<'a, I: ModuleTables>(
     known_failures: &KnownFailures,
     held: HeldPlace,
 ) -> std::result::Result<(), AllocError>
-    requires { let procedures = procedures_in (known_in cached.old held.contribution.module_index)
-        in procedure_if_numbered procedures held.number ≡ over procedures held.place }
+    requires { NumbersOver (procedures_in (known_in cached.old held.contribution.module_index))
+        held.number held.place }
     ensures { cached.new ≡ cached.old }
 {
     let known = known_at(cached, usize::from(held.contribution.module_index()));
@@ -219,11 +217,11 @@ impl<'a, 's, P: ModuleProvider> PlaceSymbolizer<'a, 's, P> {
     ) -> Result<(Option<FileKey>, u32)>
         requires { 1 ≤ limit }
         ensures same { self.new ≡ self.old }
-        ensures file { Answers (λ run. option_and_then (file_by self.old.parts) run.0) result
-            (Ok (if_any (file_on P.provided self.old place))) }
+        ensures file { GivesKey (file_by self.old.parts)
+            (if_any (file_on P.provided self.old place)) result }
         ensures count { IsRunOf (files_in P.provided self.old) place limit result }
     {
-        match self.parts.holder(place) {
+        match self.parts.holding_contribution(place) {
             None => Ok((None, to_next_shared_bound(&self.parts, place, limit))),
             Some(contribution) => {
                 let found = self.file_key_run_at(alloc, contribution, place, limit)?;
@@ -249,7 +247,7 @@ impl<'a, 's, P: ModuleProvider> PlaceSymbolizer<'a, 's, P> {
 
     /// Returns the file that a key stands for, and nothing where there is no key.
     fn file_of_key(&self, alloc: Global, key: Option<FileKey>) -> Result<FileAnswer>
-        ensures { Answers (λ file. file_seen file) result
+        ensures { Answers file_seen result
             (Ok (file_or_nothing (option_and_then (file_by self.now.parts) key))) }
     {
         let Some(key) = key else {

@@ -1,7 +1,7 @@
 //! Runs of frames: the frames at a place, and how far they go on.
 
-ghost use Rattle.std.specs.Prelude.{◌≡◌, ◌≤◌, IfOk, IfSome, Ok, Some, option_copied};
-ghost use Rattle.pdb_answers.specs.PlaceAnswers.{IsRunOf, StayFailuresOf, failing_found};
+ghost use Rattle.std.specs.Prelude.{◌≡◌, ◌≤◌, IfOk, IfSome, Ok, Some};
+ghost use Rattle.pdb_answers.specs.PlaceAnswers.{IsRunOf, StayFailuresAt, failing_found};
 ghost use Rattle.pdb_answers.specs.PlaceAnswers.{found_seen, frames_in, frames_on};
 ghost use Rattle.pdb_answers.specs.PlaceAnswers.{frames_run_held, run_found};
 ghost use Rattle.pdb_resolving.specs.Fault.{Answers};
@@ -33,8 +33,7 @@ fn read_run<'a, P: ModuleProvider>(
     far: u32,
 ) -> std::result::Result<(Option<SharedFunctionFrames<'a>>, u32), AllocError>
     ensures same { namer.new ≡ namer.old }
-    ensures known { StayFailuresOf found.now.module_index (option_copied found.now.known)
-        known_failures.old known_failures.new }
+    ensures known { StayFailuresAt (found_seen found.now) known_failures.old known_failures.new }
     ensures run { IfOk result
         (λ run. run ≡ run_found P.provided namer.old parts.now (found_seen found.now) far) }
 {
@@ -77,8 +76,7 @@ fn run_unless_known<'a, P: ModuleProvider>(
     requires { IfSome found.now.failing
         (λ part. failing_found (found_seen found.now) ≡ Some part) }
     ensures same { namer.new ≡ namer.old }
-    ensures known { StayFailuresOf found.now.module_index (option_copied found.now.known)
-        known_failures.old known_failures.new }
+    ensures known { StayFailuresAt (found_seen found.now) known_failures.old known_failures.new }
     ensures run { IfOk result
         (λ run. run ≡ run_found P.provided namer.old parts.now (found_seen found.now) far) }
 {
@@ -161,7 +159,7 @@ impl<'a, 's, P: ModuleProvider> PlaceSymbolizer<'a, 's, P> {
         ensures frames { Answers (λ run. run.0) result (Ok (frames_on P.provided self.old place)) }
         ensures count { IsRunOf (frames_in P.provided self.old) place limit result }
     {
-        match self.parts.holder(place) {
+        match self.parts.holding_contribution(place) {
             None => Ok((None, to_next_shared_bound(&self.parts, place, limit))),
             Some(contribution) => {
                 let found = self.frames_run_at(alloc, contribution, place, limit)?;

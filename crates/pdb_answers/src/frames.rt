@@ -1,11 +1,11 @@
 //! Frames at places.
 
-ghost use Rattle.std.specs.Prelude.{◌≡◌, IfSome, Some, option_copied};
-ghost use Rattle.pdb_answers.specs.PlaceAnswers.{StayFailuresOf, failing_found, failing_held};
+ghost use Rattle.std.specs.Prelude.{◌≡◌, IfSome, Some};
+ghost use Rattle.pdb_answers.specs.PlaceAnswers.{StayFailuresAt, failed_held, failing_found};
 ghost use Rattle.pdb_answers.specs.PlaceAnswers.{failing_on, found_seen, frames_found};
-ghost use Rattle.pdb_answers.specs.PlaceAnswers.{frames_held, told_on};
+ghost use Rattle.pdb_answers.specs.PlaceAnswers.{told_found, told_held, told_on};
 ghost use Rattle.pdb_answers.specs.Symbolizers.{lasting};
-ghost use Rattle.pdb_frames.specs.FailingParts.{failed_after, told};
+ghost use Rattle.pdb_frames.specs.FailingParts.{failed_after};
 ghost use Rattle.pdb_resolving.specs.Fault.{Answers};
 
 use crate::cached_parts::{HeldPlace, keep_parts};
@@ -84,11 +84,9 @@ fn frames_told<'a, P: ModuleProvider>(
     ensures same { namer.new ≡ namer.old }
     ensures failed { failed.new
         ≡ failed_after (failing_found (found_seen found.now)) result failed.old }
-    ensures known { StayFailuresOf found.now.module_index (option_copied found.now.known)
-        known_failures.old known_failures.new }
+    ensures known { StayFailuresAt (found_seen found.now) known_failures.old known_failures.new }
     ensures frames { Answers (λ f. f) result
-        (told failed.old (failing_found (found_seen found.now))
-        (frames_found P.provided namer.old parts.now (found_seen found.now))) }
+        (told_found P.provided namer.old parts.now failed.old found.now) }
 {
     let frames = chosen_frames(alloc, parts, namer, found);
     match frames {
@@ -98,7 +96,7 @@ fn frames_told<'a, P: ModuleProvider>(
             None => Err(fault),
             Some(part) => {
                 let stood = failed.has(part);
-                known_failures.keep(found.module_index, found.chosen, part)?;
+                known_failures.keep_first_failing(found.module_index, found.chosen, part)?;
                 failed.keep(part)?;
                 if stood {
                     return Err(unsuccessful(part));
@@ -125,11 +123,9 @@ fn frames_unless_known<'a, P: ModuleProvider>(
     ensures same { namer.new ≡ namer.old }
     ensures failed { failed.new
         ≡ failed_after (failing_found (found_seen found.now)) result failed.old }
-    ensures known { StayFailuresOf found.now.module_index (option_copied found.now.known)
-        known_failures.old known_failures.new }
+    ensures known { StayFailuresAt (found_seen found.now) known_failures.old known_failures.new }
     ensures frames { Answers (λ f. f) result
-        (told failed.old (failing_found (found_seen found.now))
-        (frames_found P.provided namer.old parts.now (found_seen found.now))) }
+        (told_found P.provided namer.old parts.now failed.old found.now) }
 {
     match found.failing {
         Some(part) if failed.has(part) => {
@@ -151,11 +147,9 @@ impl<'a, 's, P: ModuleProvider> PlaceSymbolizer<'a, 's, P> {
     ) -> Result<Option<SharedFunctionFrames<'a>>>
         ensures same { lasting self.new ≡ lasting self.old }
         ensures failed { self.new.failed
-            ≡ failed_after (failing_held P.provided self.old contribution place) result
-            self.old.failed }
+            ≡ failed_held P.provided self.old contribution place result }
         ensures frames { Answers (λ f. f) result
-            (told self.old.failed (failing_held P.provided self.old contribution place)
-            (frames_held P.provided self.old contribution place)) }
+            (told_held P.provided self.old contribution place) }
     {
         let module_index = contribution.module_index();
         let modules = self.namer.modules();
@@ -205,7 +199,7 @@ impl<'a, 's, P: ModuleProvider> PlaceSymbolizer<'a, 's, P> {
             ≡ failed_after (failing_on P.provided self.old place) result self.old.failed }
         ensures frames { Answers (λ f. f) result (told_on P.provided self.old place) }
     {
-        match self.parts.holder(place) {
+        match self.parts.holding_contribution(place) {
             None => Ok(None),
             Some(contribution) => self.frames_at(alloc, contribution, place),
         }

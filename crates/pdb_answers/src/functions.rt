@@ -1,16 +1,13 @@
 //! Functions at places: the function, a key of it, and how far it goes on.
 
-ghost use Rattle.std.specs.Prelude.{◌≡◌, ◌≤◌, IfOk, IfSome, Ok, Some, option_and_then};
-ghost use Rattle.std.specs.Prelude.{option_copied, option_map};
-ghost use Rattle.pdb_answers.specs.PlaceAnswers.{IsRunOf, database_in, far_from, function_held};
+ghost use Rattle.std.specs.Prelude.{◌≡◌, ◌≤◌, IfOk, IfSome, Ok, Some, option_copied, option_map};
+ghost use Rattle.pdb_answers.specs.PlaceAnswers.{AnswersFunction, GivesFunctionKey};
+ghost use Rattle.pdb_answers.specs.PlaceAnswers.{IsKeyOfChosen, IsRunOf, chosen_by_key};
+ghost use Rattle.pdb_answers.specs.PlaceAnswers.{database_in, far_from, function_held};
 ghost use Rattle.pdb_answers.specs.PlaceAnswers.{function_of_key, function_on};
-ghost use Rattle.pdb_frames.specs.Choice.{chosen};
-ghost use Rattle.pdb_frames.specs.FramesAt.{function_of as function_of_chosen};
-ghost use Rattle.pdb_frames.specs.Keys.{chosen_by};
 ghost use Rattle.pdb_frames.specs.Printing.{env_of};
 ghost use Rattle.pdb_frames.specs.ChosenSeen.{chosen_seen};
 ghost use Rattle.pdb_owners.specs.KeyOrder.{key_module};
-ghost use Rattle.pdb_known_modules.specs.KnownModules.{procedures_in};
 ghost use Rattle.pdb_resolving.specs.Fault.{Answers};
 
 use crate::symbolizer::PlaceSymbolizer;
@@ -33,9 +30,8 @@ fn function_of<'a, P: ModuleProvider>(
     chosen: Chosen<'_, 'a>,
 ) -> Result<Option<Function>>
     ensures same { namer.new ≡ namer.old }
-    ensures function { Answers (λ f. f) result (Ok
-        (function_of_chosen parts.now (env_of P.provided namer.old module_index)
-        (chosen_seen chosen.entry))) }
+    ensures function { AnswersFunction parts.now (env_of P.provided namer.old module_index)
+        chosen.entry result }
 {
     let Some(start_rva) = chosen.start_rva(parts) else {
         return Ok(None);
@@ -62,9 +58,8 @@ fn key_at<I: ModuleTables>(
     place: PdbInternalSectionOffset,
 ) -> Option<FunctionKey>
     ensures index { IfSome result (λ key. key_module key ≡ contribution.module_index) }
-    ensures chosen { option_and_then (chosen_by parts.now (procedures_in
-        (option_copied known.entry))) result
-        ≡ chosen parts.now (procedures_in (option_copied known.entry)) contribution place }
+    ensures chosen { IsKeyOfChosen parts.now (option_copied known.entry) contribution place
+        result }
 {
     let module_index = contribution.module_index();
     if let Some(number) = number_over(known, place) {
@@ -85,7 +80,7 @@ fn choose_by<'c, 'a, I: ModuleTables>(
     key: &FunctionKey,
 ) -> Option<Chosen<'c, 'a>>
     ensures { option_map chosen_seen result
-        ≡ chosen_by parts.now (procedures_in (option_copied known.entry)) key.now }
+        ≡ chosen_by_key parts.now (option_copied known.entry) key.now }
 {
     match key {
         FunctionKey::Procedure(_, number) => match procedure_numbered(known, *number) {
@@ -136,7 +131,7 @@ impl<'a, 's, P: ModuleProvider> PlaceSymbolizer<'a, 's, P> {
         ensures same { self.new ≡ self.old }
         ensures function { Answers (λ f. f) result (Ok (function_on P.provided self.old place)) }
     {
-        match self.parts.holder(place) {
+        match self.parts.holding_contribution(place) {
             None => Ok(None),
             Some(contribution) => self.function_at(alloc, contribution, place),
         }
@@ -153,9 +148,8 @@ impl<'a, 's, P: ModuleProvider> PlaceSymbolizer<'a, 's, P> {
         limit: u32,
     ) -> Result<(Option<FunctionKey>, u32)>
         ensures same { self.new ≡ self.old }
-        ensures function { Answers
-            (λ run. option_and_then (function_of_key P.provided self.old) run.0) result
-            (Ok (function_held P.provided self.old contribution place)) }
+        ensures function { GivesFunctionKey P.provided self.old
+            (function_held P.provided self.old contribution place) result }
         ensures count { IfOk result
             (λ run. run.1 ≡ far_from P.provided self.old contribution place limit) }
     {
@@ -180,12 +174,11 @@ impl<'a, 's, P: ModuleProvider> PlaceSymbolizer<'a, 's, P> {
     ) -> Result<(Option<FunctionKey>, u32)>
         requires { 1 ≤ limit }
         ensures same { self.new ≡ self.old }
-        ensures function { Answers
-            (λ run. option_and_then (function_of_key P.provided self.old) run.0) result
-            (Ok (function_on P.provided self.old place)) }
+        ensures function { GivesFunctionKey P.provided self.old
+            (function_on P.provided self.old place) result }
         ensures count { IsRunOf (database_in P.provided self.old) place limit result }
     {
-        match self.parts.holder(place) {
+        match self.parts.holding_contribution(place) {
             None => Ok((None, to_next_shared_bound(&self.parts, place, limit))),
             Some(contribution) => self.key_run_at(alloc, contribution, place, limit),
         }

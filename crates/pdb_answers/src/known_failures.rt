@@ -1,16 +1,16 @@
 //! Which part fails in functions that were asked for, so that what can't be read isn't read again.
 
-ghost use Rattle.std.specs.Prelude.{◌≡◌, ◌↔◌, ℕ, true, Option, Some, IfSome};
-ghost use Rattle.pdb_frames.specs.FailingParts.{failing_in, unsuccessful_error};
+ghost use Rattle.std.specs.Prelude.{◌≡◌, ◌↔◌, ℕ, true, Option};
+ghost use Rattle.pdb_frames.specs.FailingParts.{unsuccessful_error};
 ghost use Rattle.pdb_frames.specs.Choice.{start_of};
 ghost use Rattle.pdb_frames.specs.ChosenSeen.{chosen_seen};
 ghost use Rattle.pdb_known_modules.specs.KnownModules.{ModuleData};
-ghost use Rattle.pdb_answers.specs.KnownFailures.{AreFailuresOf, IsAbout, those_failing};
-ghost use Rattle.pdb_answers.specs.KnownFailures.{those_like};
+ghost use Rattle.pdb_answers.specs.KnownFailures.{AreFailuresOf, IsAbout, IsKnownIn};
+ghost use Rattle.pdb_answers.specs.KnownFailures.{StayFailuresWith, those_failing, those_like};
 
 use pdb_addresses::PdbInternalSectionOffset;
+use pdb_container::SymbolIndex;
 use pdb_frames::{Chosen, Part, number_of};
-use pdb_indices::SymbolIndex;
 use pdb_resolving::Error;
 use std::alloc::{AllocError, Global};
 use std::collections::BTreeMap;
@@ -119,9 +119,7 @@ impl KnownFailures {
     /// Returns what is known under a number of a chosen function of a module.
     #[tactic(auto, using(crate::proofs::KnownSteps::known_part))]
     fn under(&self, number: u64, module_index: u16, chosen: Chosen<'_, '_>) -> Option<Part>
-        ensures { (own : ℕ → Option ModuleData) → AreFailuresOf own self.now → IfSome result
-            (λ part. failing_in module_index (own module_index) (chosen_seen chosen.entry)
-            ≡ Some part) }
+        ensures { IsKnownIn self.now module_index (chosen_seen chosen.entry) result }
     {
         match self.by_number.get(&number) {
             Some(known) if known.module_index == module_index && known.asked.is_about(chosen) => {
@@ -134,9 +132,7 @@ impl KnownFailures {
     /// Returns the first part that can't be read of those that the frames in a chosen function of a
     /// module are made of, if that is known.
     pub(crate) fn part(&self, module_index: u16, chosen: Chosen<'_, '_>) -> Option<Part>
-        ensures { (own : ℕ → Option ModuleData) → AreFailuresOf own self.now → IfSome result
-            (λ part. failing_in module_index (own module_index) (chosen_seen chosen.entry)
-            ≡ Some part) }
+        ensures { IsKnownIn self.now module_index (chosen_seen chosen.entry) result }
     {
         let of_module = number_for(module_index, Asked::Module);
         if let Some(part) = self.under(of_module, module_index, chosen) {
@@ -152,15 +148,13 @@ impl KnownFailures {
     /// # Errors
     /// [`AllocError`] where memory is refused; then what is known stays as it was.
     #[tactic(auto, using(crate::proofs::KnownSteps::known_now, crate::proofs::KnownSteps::known_before))]
-    pub(crate) fn keep(
+    pub(crate) fn keep_first_failing(
         &mut self,
         module_index: u16,
         chosen: Chosen<'_, '_>,
         part: Part,
     ) -> Result<(), AllocError>
-        ensures { (own : ℕ → Option ModuleData) → failing_in module_index (own module_index)
-            (chosen_seen chosen.entry) ≡ Some part → AreFailuresOf own self.old
-            → AreFailuresOf own self.new }
+        ensures { StayFailuresWith module_index (chosen_seen chosen.entry) part self.old self.new }
     {
         let asked = Asked::failing(chosen, part);
         let known = KnownFailure {

@@ -1,10 +1,9 @@
 //! A symbolizer of places, and what its answers go over.
 
 ghost use Rattle.std.specs.Prelude.{◌≡◌, IfOk};
+ghost use Rattle.pdb_answers.specs.KnownFailures.{data_among};
 ghost use Rattle.pdb_answers.specs.Symbolizers.{symbolizer_over};
-ghost use Rattle.pdb_frames.specs.Scopes.{entries_of};
 ghost use Rattle.pdb_known_modules.specs.CachedModules.{AreKept};
-ghost use Rattle.pdb_known_modules.specs.KnownModules.{module_data, own_of};
 
 use crate::known_failures::KnownFailures;
 use pdb_frames::{ContextParts, Failures, Namer};
@@ -19,8 +18,8 @@ fn empty_modules<'a, P: ModuleProvider>(
     provider: &'a P,
     namer: &Namer<'_, '_, P>,
 ) -> Result<CachedModules<'a, P::Info>, AllocError>
-    ensures { IfOk result (λ cached. AreKept
-        (λ n. module_data (own_of (P.provided provider.now) (entries_of namer.now) n)) cached) }
+    ensures { IfOk result (λ cached. AreKept (data_among P.provided provider.now namer.now)
+        cached) }
 {
     nothing_cached(alloc, namer.modules().len(), provider.size_hint())
 }
@@ -45,10 +44,8 @@ pub struct PlaceSymbolizer<'a, 's, P: ModuleProvider> {
 
 impl<'a, 's, P: ModuleProvider> Model for PlaceSymbolizer<'a, 's, P> {
     ghost use Rattle.pdb_answers.specs.Symbolizers as symbolizers;
-    ghost use Rattle.pdb_answers.specs.KnownFailures.{AreFailuresOf, data_of_modules};
-    ghost use Rattle.pdb_frames.specs.Scopes.{entries_of};
+    ghost use Rattle.pdb_answers.specs.KnownFailures.{AreFailuresOf, data_among, data_of_modules};
     ghost use Rattle.pdb_known_modules.specs.CachedModules.{AreKept};
-    ghost use Rattle.pdb_known_modules.specs.KnownModules.{module_data, own_of};
 
     ghost Value = { symbolizers.Symbolizer P };
 
@@ -61,8 +58,7 @@ impl<'a, 's, P: ModuleProvider> Model for PlaceSymbolizer<'a, 's, P> {
 
     // What is cached of each module is its own, and what is known to fail does.
     ghost invariant = { λ s.
-        AreKept (λ n. module_data (own_of (P.provided s.provider.now) (entries_of s.namer) n))
-        s.cached
+        AreKept (data_among P.provided s.provider.now s.namer) s.cached
         × AreFailuresOf (data_of_modules P.provided s.provider.now s.namer) s.known_failures };
 }
 

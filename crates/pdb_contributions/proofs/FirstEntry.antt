@@ -1,7 +1,7 @@
 -- Of entries that stand as they are the first one that holds a place is its holder.
 use Rattle.std.proofs.Common.{◌≡◌, cond, Bool, true, false, List, [], ◌∷◌, map, Option, None, Some}
 use Rattle.std.proofs.Common.{Result, Ok, Err, refl, sym, ap, ◌∙◌}
-use Rattle.std.specs.Prelude.{option_map}
+use Rattle.std.specs.Prelude.{option_map, IfOk}
 use Rattle.std.specs.List.{find}
 use Rattle.pdb_container.specs.Fault as container_fault
 use Rattle.pdb_container.specs.Fault.{◌>>=◌}
@@ -18,7 +18,7 @@ use Rattle.pdb_contributions.specs.declared.contribution.ModuleSectionContributi
   ModuleSectionContribution,
 }
 use Rattle.pdb_contributions.specs.MergedContributions.{Held, holder, holds, kept_entries, span_of}
-use Rattle.pdb_contributions.specs.UnmergedContributions.{unmerged_by}
+use Rattle.pdb_contributions.specs.UnmergedContributions.{unmerged_by, HoldByFirst}
 
 -- an entry that holds the place, or the first of others
 first_of : (b : Bool) (c : DBISectionContribution) (spans : Option ModuleSectionContribution)
@@ -43,13 +43,21 @@ held_to_end : (fault : Option container_fault.Fault) (items : List DBISectionCon
 held_to_end None items x held same = same_held x held same
 held_to_end (Some e) items x held same = absurd cc
 
--- the holder of a place by entries that stand as they are
-pub first_holds : (sections : List ImageSectionHeader) (entries : Listing DBISectionContribution)
-    (held : Held) (place : PdbInternalSectionOffset) → unmerged_by sections entries ≡ Ok held
-    → holder held.contributions place
-    ≡ option_map span_of (find (λ c. holds place (span_of c))
-    (kept_entries sections entries.items))
-first_holds sections entries held place made =
-    ap (λ (h : Held). holder h.contributions place)
+-- the holders of places by entries that stand as they are
+first_holds : (sections : List ImageSectionHeader) (entries : Listing DBISectionContribution)
+    (held : Held) → unmerged_by sections entries ≡ Ok held → HoldByFirst sections entries held
+first_holds sections entries held made =
+    λ place. ap (λ (h : Held). holder h.contributions place)
     (sym (held_to_end entries.fault entries.items _ held made))
     ∙ find_span place (kept_entries sections entries.items)
+
+if_held : (Fact : Held → Type 0) (read : Result Held Fault)
+    → ((held : Held) → read ≡ Ok held → Fact held) → IfOk read Fact
+if_held Fact (Ok held) each = each held refl
+if_held Fact (Err e) each = tt
+
+pub hold_by_first : (sections : List ImageSectionHeader) (entries : Listing DBISectionContribution)
+    → IfOk (unmerged_by sections entries) (HoldByFirst sections entries)
+hold_by_first sections entries =
+    if_held (HoldByFirst sections entries) (unmerged_by sections entries)
+    (first_holds sections entries)

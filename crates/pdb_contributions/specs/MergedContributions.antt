@@ -1,7 +1,7 @@
 -- What modules hold of sections: the section contributions of the DBI stream that count, merged.
 -- Which entries count and merge, and what is refused, is what the pdb-addr2line crate does; here an
 -- end past 32 bits is cut.
-use Rattle.std.specs.Prelude.{ℕ, ◌+◌, ◌-◌, ◌^◌, Bool, false, ◌&&◌, min, List, [], ◌∷◌, ◌++◌, map}
+use Rattle.std.specs.Prelude.{◌≡◌, ℕ, ◌+◌, ◌-◌, ◌^◌, Bool, false, ◌&&◌, min, List, [], ◌∷◌, ◌++◌, map}
 use Rattle.std.specs.Prelude.{drop, nat_lt, nat_le, ◌==◌, Option, None, Some, Result, Ok, Err}
 use Rattle.std.specs.Prelude.{if◌then◌else◌}
 use Rattle.std.specs.List.{filter, find}
@@ -19,7 +19,8 @@ use Rattle.pdb_symbols_modules.specs.declared.contributions.DBISectionContributi
   DBISectionContribution,
 }
 use Rattle.pdb_symbols_modules.specs.Contributions.{contributions_of}
-use Rattle.pdb_resolving.specs.Fault.{Fault, UnorderedSectionContributions}
+use Rattle.pdb_resolving.specs.declared.error.Error.{Error}
+use Rattle.pdb_resolving.specs.Fault.{Fault, Fails, UnorderedSectionContributions}
 use Rattle.pdb_resolving.specs.Fault.{OverlappingSectionContributions, lifted}
 use Rattle.pdb_contributions.specs.declared.contribution.ModuleSectionContribution.{
   ModuleSectionContribution,
@@ -125,6 +126,21 @@ apart_behind c (next ∷ others) =
 abbrev pub apart : List ModuleSectionContribution → Result (Unit {0}) Fault
 apart [] = Ok tt
 apart (c ∷ others) = apart_behind c others
+
+-- With whatever follows, contributions and the one that is merged further are what others and the
+-- one before the next were.
+abbrev pub MergesInto : List ModuleSectionContribution → ModuleSectionContribution
+    → ModuleSectionContribution → List ModuleSectionContribution → ModuleSectionContribution
+    → Type 0
+MergesInto front last next merged current =
+    (others : List ModuleSectionContribution)
+    → all_before merged (merged_from current others)
+    ≡ all_before front (merged_from last (next ∷ others))
+
+-- with whatever follows, merging the next contribution fails
+abbrev pub FailsToMerge : ModuleSectionContribution → ModuleSectionContribution → Error → Type 0
+FailsToMerge last next e =
+    (others : List ModuleSectionContribution) → Fails e (merged_from last (next ∷ others))
 
 -- ---- what modules hold
 

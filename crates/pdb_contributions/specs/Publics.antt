@@ -44,11 +44,14 @@ entry_of_public sections (Some p) =
     then record { start_offset = p.offset; name = Some p.name } ∷ []
     else []
 
+-- what a symbol adds to the list
+abbrev pub entry_of_symbol : List ImageSectionHeader → Symbol → List PublicFunction
+entry_of_symbol sections s = entry_of_public sections (as_public (symbol_form_of s))
+
 -- the entries of symbols: of the public ones that can be read and lie in sections in which code may
 -- run
 abbrev pub entries_of_symbols : List ImageSectionHeader → List Symbol → List PublicFunction
-entries_of_symbols sections symbols =
-    flat_map (λ s. entry_of_public sections (as_public (symbol_form_of s))) symbols
+entries_of_symbols sections symbols = flat_map (entry_of_symbol sections) symbols
 
 -- the entries of symbols, which have to be there to their end
 abbrev pub entries_read : List ImageSectionHeader → Listing Symbol
@@ -113,12 +116,24 @@ abbrev pub StandsNamed : PublicFunction → List PublicFunction → Type 0
 StandsNamed f list = (i : ℕ) × (a : PublicFunction) × (slice_get list i ≡ Some a)
     × (a.start_offset ≡ f.start_offset) × (IsTrue (is_named f) → IsTrue (is_named a))
 
+-- each given entry stands in a list so
+abbrev pub StandNamed : List PublicFunction → List PublicFunction → Type 0
+StandNamed given list =
+    (k : ℕ) (f : PublicFunction) → slice_get given k ≡ Some f → StandsNamed f list
+
+-- the public list of entries, of placeholders at places, and of placeholders at sections' ends
+abbrev pub public_list : List PublicFunction → List PdbInternalSectionOffset
+    → List ImageSectionHeader → List PublicFunction
+public_list entries starts sections =
+    publics_among (entries ++ placeholders starts ++ section_ends sections)
+
 -- the public list: public symbols, then placeholders where contributions begin, then placeholders
 -- at sections' ends
+
 abbrev pub publics : List ImageSectionHeader → List Symbol → List PdbInternalSectionOffset
     → List PublicFunction
-publics sections symbols starts = publics_among
-    (entries_of_symbols sections symbols ++ placeholders starts ++ section_ends sections)
+publics sections symbols starts =
+    public_list (entries_of_symbols sections symbols) starts sections
 
 -- ---- looking up
 
@@ -166,6 +181,10 @@ abbrev pub missing : List PublicFunction → List PdbInternalSectionOffset
 missing list [] = []
 missing list (p ∷ places) =
     if is_some (public_exactly list p) then missing list places else p ∷ missing list places
+
+-- a list with placeholders after it at the places at which none of its entries begins
+abbrev pub with_missing : List PublicFunction → List PdbInternalSectionOffset → List PublicFunction
+with_missing list places = list ++ placeholders (missing list places)
 
 -- ---- looking up in order
 

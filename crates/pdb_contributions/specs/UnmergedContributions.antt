@@ -1,6 +1,8 @@
 -- What modules hold of sections where the entries of the DBI stream may stand in any order. GNU ld
 -- before 2.44 doesn't sort them.
-use Rattle.std.specs.Prelude.{ℕ, Bool, true, false, List, [], ◌∷◌, map, Result, Ok, Err}
+use Rattle.std.specs.Prelude.{◌≡◌, ℕ, Bool, true, false, List, [], ◌∷◌, map, Result, Ok, Err}
+use Rattle.std.specs.Prelude.{option_map}
+use Rattle.std.specs.List.{find}
 use Rattle.pdb_container.specs.Fault.{◌>>=◌}
 use Rattle.pdb_container.specs.Listing.{Listing, whole}
 use Rattle.pdb_addresses.specs.declared.sections.ImageSectionHeader.{ImageSectionHeader}
@@ -18,7 +20,7 @@ use Rattle.pdb_contributions.specs.declared.contribution.ModuleSectionContributi
   ModuleSectionContribution,
 }
 use Rattle.pdb_contributions.specs.MergedContributions.{Held, held_of, kept_entries}
-use Rattle.pdb_contributions.specs.MergedContributions.{later_starts_of, span_of}
+use Rattle.pdb_contributions.specs.MergedContributions.{later_starts_of, span_of, holder, holds}
 
 -- a place, unless no entry stands before it
 abbrev pub unless_first : List ModuleSectionContribution → PdbInternalSectionOffset
@@ -37,7 +39,15 @@ unmerged_by sections entries = do
     later_starts = later_starts_of (kept_entries sections entries.items);
   }
 
+-- a module holds each place by what the first of a list's entries holds that counts and holds the
+-- place
+abbrev pub HoldByFirst : List ImageSectionHeader → Listing DBISectionContribution → Held → Type 0
+HoldByFirst sections entries held =
+    (place : PdbInternalSectionOffset) → holder held.contributions place
+    ≡ option_map span_of (find (λ c. holds place (span_of c)) (kept_entries sections entries.items))
+
 -- what modules hold by the contributions of the DBI stream, each as it stands
+
 abbrev pub unmerged_of : List ImageSectionHeader → List ℕ → Result Held Fault
 unmerged_of sections bytes = lifted (contributions_of bytes) >>= unmerged_by sections
 

@@ -1,9 +1,9 @@
 //! What modules hold of sections: contributions that count, merged, in order, and apart.
 
-ghost use Rattle.std.specs.Prelude.{◌≡◌, ◌≢◌, List, ◌∷◌, IfErr, MatchResult};
-ghost use Rattle.pdb_resolving.specs.Fault.{Answers, Fails};
+ghost use Rattle.std.specs.Prelude.{◌≢◌, IfErr, MatchResult};
+ghost use Rattle.pdb_resolving.specs.Fault.{Answers};
 ghost use Rattle.pdb_resolving.specs.declared.error.Error.TheVariants as errors;
-ghost use Rattle.pdb_contributions.specs.MergedContributions.{all_before, merged_from, merged_by};
+ghost use Rattle.pdb_contributions.specs.MergedContributions.{MergesInto, FailsToMerge, merged_by};
 ghost use Rattle.pdb_contributions.specs.MergedContributions.{held_of, apart};
 
 use crate::contribution::{
@@ -44,11 +44,8 @@ fn merge_next(
     last: ModuleSectionContribution,
     next: ModuleSectionContribution,
 ) -> Result<ModuleSectionContribution>
-    ensures { MatchResult result (λ c. (others : List ModuleSectionContribution)
-        → all_before merged.new.items (merged_from c others)
-        ≡ all_before merged.old.items (merged_from last (next ∷ others)))
-        (λ e. (others : List ModuleSectionContribution)
-        → Fails e (merged_from last (next ∷ others))) }
+    ensures { MatchResult result (MergesInto merged.old.items last next merged.new.items)
+        (FailsToMerge last next) }
 {
     if !is_of_same(last, next) {
         merged.push(last)?;

@@ -2,7 +2,7 @@
 
 ghost use Rattle.std.specs.Prelude.{◌≡◌, ◌++◌, OnOk, option_map};
 ghost use Rattle.pdb_container.specs.Fault.{Gives, Parses};
-ghost use Rattle.pdb_contributions.specs.Publics.{as_public, entry_of_public, placeholders};
+ghost use Rattle.pdb_contributions.specs.Publics.{as_public, entry_of_symbol, placeholders};
 ghost use Rattle.pdb_contributions.specs.Publics.{section_ends, are_whole, entries_read};
 ghost use Rattle.pdb_symbol_records.specs.Forms.{public_form};
 ghost use Rattle.pdb_symbol_records.specs.Iteration.{symbols_left};
@@ -59,8 +59,8 @@ fn push_public<'s>(
     sections: &[ImageSectionHeader],
     symbol: &Symbol<'s>,
 ) -> std::result::Result<(), AllocError>
-    ensures { OnOk result (functions.new.items ≡ functions.old.items
-        ++ entry_of_public sections.now (as_public (symbol_form_of symbol.now))) }
+    ensures { OnOk result (functions.new.items
+        ≡ functions.old.items ++ entry_of_symbol sections.now symbol.now) }
 {
     if let Some(public) = parse_public(symbol) {
         if is_executable(sections, public.offset.section) {

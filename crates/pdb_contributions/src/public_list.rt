@@ -1,8 +1,8 @@
 //! The public list in order, and looking up in it.
 
-ghost use Rattle.std.specs.Prelude.{◌≡◌, ◌++◌, IfOk, OnOk, is_some, length, option_map, slice_get};
+ghost use Rattle.std.specs.Prelude.{◌≡◌, IfOk, OnOk, is_some, length, option_map, slice_get};
 ghost use Rattle.std.specs.Prelude.{true};
-ghost use Rattle.pdb_contributions.specs.Publics.{placeholders, section_ends, publics_among};
+ghost use Rattle.pdb_contributions.specs.Publics.{public_list, publics_among, with_missing};
 ghost use Rattle.pdb_contributions.specs.Publics.{missing, public_exactly, public_over, next_public};
 ghost use Rattle.pdb_contributions.specs.Publics.{is_at as at_place, is_before as comes_before};
 ghost use Rattle.pdb_contributions.specs.Publics.{last_at_or_before as last_before};
@@ -214,8 +214,7 @@ fn push_missing(
     starts: &[PdbInternalSectionOffset],
 ) -> Result<(), AllocError>
     requires { Rises functions.old.items }
-    ensures { OnOk result (functions.new.items ≡ functions.old.items
-        ++ placeholders (missing functions.old.items starts.now)) }
+    ensures { OnOk result (functions.new.items ≡ with_missing functions.old.items starts.now) }
 {
     let alloc = *functions.allocator();
     let places = missing_among(alloc, functions.as_slice(), starts)?;
@@ -239,8 +238,7 @@ impl<'s> PublicList<'s> {
         sections: &[ImageSectionHeader],
     ) -> Result<PublicList<'s>, AllocError>
         ensures { IfOk result
-            (λ l. l ≡ publics_among
-            (functions.entry.items ++ placeholders starts.now ++ section_ends sections.now)) }
+            (λ l. l ≡ public_list functions.entry.items starts.now sections.now) }
     {
         sort_and_dedup(&mut functions)?;
         push_missing(&mut functions, starts)?;

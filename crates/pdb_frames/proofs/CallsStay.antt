@@ -13,7 +13,7 @@ use Rattle.pdb_addresses.specs.declared.internal_section_offset.PdbInternalSecti
 use Rattle.pdb_frames.proofs.FileStays.{AreClear}
 use Rattle.pdb_frames.proofs.RunLaw.{IsClear, differ, front_clear, leb_step, left_false, on, one_on}
 use Rattle.pdb_frames.proofs.RunLaw.{rest_clear, right_false, zero_on}
-use Rattle.pdb_inlinees.specs.InlinedRows.{covers}
+use Rattle.pdb_lines.specs.InlinedRows.{covers}
 use Rattle.pdb_module_data.specs.Forest.{Site}
 use Rattle.pdb_module_data.specs.InlinePieces.{cuts_of, kept_rows, row_cuts, rows_of_sites}
 use Rattle.pdb_module_data.specs.InlinedCalls.{call_by, calls_of, calls_over, chain_at}

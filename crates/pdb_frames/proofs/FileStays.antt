@@ -17,7 +17,7 @@ use Rattle.pdb_frames.specs.FramesAt.{call_frame, function_frame, calls_in, row_
 use Rattle.pdb_frames.specs.FramesAt.{frames_in_data, found_frames, frames_of_chosen}
 use Rattle.pdb_owners.specs.FileAnswers.{FileAnswer, Nothing, Unreadable, NoFile, File}
 use Rattle.pdb_owners.specs.Frames.{Frame}
-use Rattle.pdb_inlinees.specs.Inlinees.{InlinedFunction}
+use Rattle.pdb_lines.specs.Inlinees.{InlinedFunction}
 use Rattle.pdb_known_modules.specs.KnownModules.{ModuleData, ExtendedModule, extended_of}
 use Rattle.pdb_known_modules.specs.KnownModules.{procedure_calls, sites_lifted}
 use Rattle.pdb_lines.specs.LinesSubsections.{Program}

@@ -6,7 +6,7 @@ use Rattle.pdb_container.specs.Fault as container
 use Rattle.pdb_container.specs.Fault.{◌>>=◌}
 use Rattle.pdb_addresses.specs.declared.internal_section_offset.PdbInternalSectionOffset.{PdbInternalSectionOffset}
 use Rattle.pdb_contributions.specs.declared.contribution.ModuleSectionContribution.{ModuleSectionContribution}
-use Rattle.pdb_inlinees.specs.Inlinees.{InlinedFunction}
+use Rattle.pdb_lines.specs.Inlinees.{InlinedFunction}
 use Rattle.pdb_symbols_modules.specs.ModuleStream.{ModuleStream, iteration_in}
 use Rattle.pdb_module_data.specs.Forest.{Site, SitesFault, past, sites_from, sites_of}
 use Rattle.pdb_module_data.specs.Forest as forest

@@ -1,7 +1,7 @@
 -- What a context goes over, and what it chooses at a place: a procedure, or an entry of the public
 -- list.
-use Rattle.std.specs.Prelude.{ℕ, ◌+◌, ◌-◌, Bool, false, List, [], ◌∷◌, ◌==◌, Option, None, Some}
-use Rattle.std.specs.Prelude.{option_map, option_and_then, if◌then◌else◌}
+use Rattle.std.specs.Prelude.{◌≡◌, ℕ, ◌+◌, ◌-◌, Bool, false, List, [], ◌∷◌, ◌==◌, Option, None}
+use Rattle.std.specs.Prelude.{Some, option_map, option_and_then, if◌then◌else◌}
 use Rattle.pdb_addresses.specs.declared.internal_section_offset.PdbInternalSectionOffset.{
   PdbInternalSectionOffset,
 }
@@ -14,6 +14,7 @@ use Rattle.pdb_contributions.specs.declared.contribution.ModuleSectionContributi
 use Rattle.pdb_contributions.specs.MergedContributions.{holder}
 use Rattle.pdb_contributions.specs.Publics.{PublicFunction, public_exactly, public_over}
 use Rattle.pdb_contributions.specs.Publics.{next_public}
+use Rattle.pdb_known_modules.specs.KnownModules.{ModuleData, procedure_if_numbered, procedures_in}
 use Rattle.pdb_module_data.specs.Procedures.{Procedure, over}
 
 -- the parts that every question goes over: the address map, what modules hold, the public list, and
@@ -42,7 +43,18 @@ abbrev pub chosen : Parts → List Procedure → ModuleSectionContribution
 chosen p procedures c place =
     chosen_of (over procedures place) (public_over p.publics c.start_offset place)
 
+-- the same by the module's data, which has no procedures where it isn't there
+abbrev pub chosen_in : Parts → Option ModuleData → ModuleSectionContribution
+    → PdbInternalSectionOffset → Option Chosen
+chosen_in p known c place = chosen p (procedures_in known) c place
+
+-- a number is that of the procedure over a place, if there is one
+abbrev pub NumbersOver : List Procedure → Option ℕ → PdbInternalSectionOffset → Type 0
+NumbersOver procedures number place =
+    procedure_if_numbered procedures number ≡ over procedures place
+
 -- where a chosen function begins
+
 abbrev pub start_of : Chosen → PdbInternalSectionOffset
 start_of (Proc q) = q.offset
 start_of (Public f) = f.start_offset

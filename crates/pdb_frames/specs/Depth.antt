@@ -6,7 +6,7 @@ use Rattle.pdb_addresses.specs.declared.internal_section_offset.PdbInternalSecti
   PdbInternalSectionOffset,
 }
 use Rattle.pdb_symbols_modules.specs.ModuleStream.{ModuleStream}
-use Rattle.pdb_inlinees.specs.Inlinees.{InlinedFunction}
+use Rattle.pdb_lines.specs.Inlinees.{InlinedFunction}
 use Rattle.pdb_contributions.specs.declared.contribution.ModuleSectionContribution.{
   ModuleSectionContribution,
 }
@@ -14,10 +14,11 @@ use Rattle.pdb_module_data.specs.Forest.{Site}
 use Rattle.pdb_module_data.specs.InlinedCalls.{call_rows, deepest}
 use Rattle.pdb_module_data.specs.Procedures.{Procedure}
 use Rattle.pdb_resolving.specs.Fault.{Fault}
-use Rattle.pdb_owners.specs.Frames.{Frame}
+use Rattle.pdb_owners.specs.Frames.{Frame, FunctionFrames}
 use Rattle.pdb_known_modules.specs.KnownModules.{ModuleData, ExtendedModule, extended_of}
 use Rattle.pdb_known_modules.specs.KnownModules.{module_data, procedure_sites, procedures_in}
 use Rattle.pdb_frames.specs.Choice.{Parts, Chosen, Proc, Public, chosen, held_at, place_of}
+use Rattle.pdb_frames.specs.FramesAt as framing
 use Rattle.pdb_frames.specs.Scopes.{Scope}
 
 -- the depth of a site that may be there
@@ -61,3 +62,8 @@ pub record AreAsDeep (p : Parts) (scope : ℕ → Scope) (a : ℕ) (frames : Lis
       place ≡ Some function
   pub depth : length frames
       ≡ depth_in (module_data (scope holder.module_index).own) function place + 1
+
+-- the frames of each answer are as deep as the sites over its place are
+abbrev pub FramesAreAsDeep : Parts → (ℕ → Scope) → Type 0
+FramesAreAsDeep p scope = (a : ℕ) (found : FunctionFrames)
+    → framing.frames p scope a ≡ Ok (Some found) → AreAsDeep p scope a found.frames

@@ -18,7 +18,7 @@ use Rattle.pdb_frames.specs.Runs.{is_bound}
 use Rattle.pdb_frames.specs.Scopes.{Scope}
 use Rattle.pdb_owners.specs.Databases.{Database}
 use Rattle.pdb_owners.specs.Frames.{FunctionFrames}
-use Rattle.pdb_inlinees.specs.Inlinees.{InlinedFunction}
+use Rattle.pdb_lines.specs.Inlinees.{InlinedFunction}
 use Rattle.pdb_known_modules.specs.KnownModules.{ModuleData, ExtendedModule, extended_of}
 use Rattle.pdb_known_modules.specs.KnownModules.{extended_procedure_of, module_data, procedures_in}
 use Rattle.pdb_lines.specs.LinesSubsections.{Program}

@@ -2,12 +2,13 @@
 use Rattle.std.specs.Prelude.{ℕ, List, [], ◌∷◌, ◌++◌, map, Option, None, Some, option_map}
 use Rattle.std.specs.Prelude.{option_and_then, Result, Ok}
 use Rattle.pdb_container.specs.Fault.{◌>>=◌}
+use Rattle.pdb_container.specs.declared.index_numbers.FileIndex.{FileIndex}
 use Rattle.pdb_addresses.specs.declared.internal_section_offset.PdbInternalSectionOffset.{
   PdbInternalSectionOffset,
 }
 use Rattle.pdb_lines.specs.LinesSubsections.{Program}
 use Rattle.pdb_symbols_modules.specs.ModuleStream.{ModuleStream}
-use Rattle.pdb_inlinees.specs.Inlinees.{InlinedFunction}
+use Rattle.pdb_lines.specs.Inlinees.{InlinedFunction}
 use Rattle.pdb_contributions.specs.declared.contribution.ModuleSectionContribution.{
   ModuleSectionContribution,
 }
@@ -51,11 +52,17 @@ abbrev pub function_frame_row : Parts → ℕ → Option LineRow → Option Fram
 function_frame_row p section row =
     option_and_then (λ r. frame_row p (row_start section r) r.length) row
 
+-- the name of the source file with an index among a module's files, if both are there
+abbrev pub named_file : Parts → Program → Option FileIndex → Option (List ℕ)
+named_file p program file =
+    option_and_then (λ index. file_text program p.names index.0) file
+
 -- the frame of an inlined call
+
 abbrev pub call_frame : Parts → Env → Program → InlinedCall → Frame
 call_frame p env program call = record {
   function = if_made (id_text env (call.inlinee).0);
-  file = option_and_then (λ file. file_text program p.names file.0) call.file;
+  file = named_file p program call.file;
   line = call.line;
   row = call_row p call.row;
 }
@@ -123,6 +130,11 @@ abbrev pub frames_of_chosen : Parts → Env → Option ModuleData → PdbInterna
 frames_of_chosen p env known place None = Ok None
 frames_of_chosen p env known place (Some c) =
     frames_in p env known c place >>= λ frames. Ok (found_frames p c frames (start_address p c))
+
+-- frames that are read and not made: nothing, or the fault of what they are made of
+abbrev pub frames_checked : Parts → Env → Option ModuleData → Chosen → PdbInternalSectionOffset
+    → Result (Option FunctionFrames) Fault
+frames_checked p env known c place = frames_in p env known c place >>= λ _. Ok nothing
 
 -- the answer in the module of a contribution, for a place that it holds
 unfoldable pub frames_at : Parts → Scope → ModuleSectionContribution → PdbInternalSectionOffset

@@ -2,10 +2,9 @@
 
 ghost use Rattle.std.specs.Prelude.{◌≡◌, option_copied, option_map};
 ghost use Rattle.pdb_addresses.specs.Addresses.{outer_of_place};
-ghost use Rattle.pdb_frames.specs.Choice.{chosen as chosen_at, start_of, start_address};
+ghost use Rattle.pdb_frames.specs.Choice.{NumbersOver, chosen_in, start_of, start_address};
 ghost use Rattle.pdb_frames.specs.Choice.{length_of, end_behind, function_end};
-ghost use Rattle.pdb_known_modules.specs.KnownModules.{procedure_if_numbered, procedures_in};
-ghost use Rattle.pdb_module_data.specs.Procedures.{over};
+ghost use Rattle.pdb_known_modules.specs.KnownModules.{procedures_in};
 ghost use Rattle.pdb_frames.specs.ChosenSeen.{chosen_seen, end_seen};
 
 use crate::parts::ContextParts;
@@ -47,10 +46,9 @@ pub fn choose<'c, 'a, I: ModuleTables>(
     contribution: ModuleSectionContribution,
     place: PdbInternalSectionOffset,
 ) -> Option<Chosen<'c, 'a>>
-    requires { procedure_if_numbered (procedures_in (option_copied known)) number
-        ≡ over (procedures_in (option_copied known)) place }
+    requires { NumbersOver (procedures_in (option_copied known)) number place }
     ensures { option_map chosen_seen result
-        ≡ chosen_at parts.now (procedures_in (option_copied known.entry)) contribution place }
+        ≡ chosen_in parts.now (option_copied known.entry) contribution place }
 {
     if let Some(number) = number {
         if let Some(procedure) = procedure_numbered(known, number) {

@@ -1,12 +1,9 @@
 //! The name of a chosen function.
 
 ghost use Rattle.std.specs.Prelude.{◌≡◌, IfOk, option_map};
-ghost use Rattle.std.specs.Arc.{arc_str_bytes};
 ghost use Rattle.pdb_container.specs.RawString.{raw_bytes};
-ghost use Rattle.pdb_frames.specs.ChosenNames.{name_of as name_of_chosen};
-ghost use Rattle.pdb_frames.specs.ChosenNames.{procedure_name as name_of_procedure};
 ghost use Rattle.pdb_frames.specs.ChosenNames.{public_name as public_name_of};
-ghost use Rattle.pdb_frames.specs.ChosenSeen.{chosen_seen};
+ghost use Rattle.pdb_frames.specs.NamesSeen.{NamesChosen, NamesProcedure};
 ghost use Rattle.pdb_names.specs.Printing.{env_of};
 
 use crate::choice::Chosen;
@@ -44,8 +41,8 @@ fn procedure_name<'a, P: ModuleProvider>(
     procedure: &Procedure<'a>,
 ) -> Result<Option<ArcStr>, AllocError>
     ensures same { namer.new ≡ namer.old }
-    ensures name { IfOk result (λ n. option_map arc_str_bytes n
-        ≡ name_of_procedure parts.now (env_of P.provided namer.old module_index) procedure.now) }
+    ensures name { IfOk result (NamesProcedure parts.now (env_of P.provided namer.old module_index)
+        procedure.now) }
 {
     match public_name(parts, procedure) {
         Some(name) => {
@@ -68,9 +65,8 @@ pub fn name_of<'a, P: ModuleProvider>(
     chosen: Chosen<'_, 'a>,
 ) -> Result<Option<ArcStr>, AllocError>
     ensures same { namer.new ≡ namer.old }
-    ensures name { IfOk result (λ n. option_map arc_str_bytes n
-        ≡ name_of_chosen parts.now (env_of P.provided namer.old module_index)
-        (chosen_seen chosen.entry)) }
+    ensures name { IfOk result (NamesChosen parts.now (env_of P.provided namer.old module_index)
+        chosen.entry) }
 {
     match chosen {
         Chosen::Procedure(number, procedure) => procedure_name(

@@ -1,12 +1,9 @@
 //! The parts of modules that can't be read.
 
-ghost use Rattle.std.specs.Prelude.{◌≡◌, IfOk, option_copied};
-ghost use Rattle.pdb_frames.specs.FailingParts.{failing_by, failing_in as failing_in_module};
-ghost use Rattle.pdb_frames.specs.FailingParts.{failing_procedure as failing_of_procedure};
-ghost use Rattle.pdb_frames.specs.FailingParts.{failing_sites as failing_of_sites};
-ghost use Rattle.pdb_known_modules.specs.KnownModules.{extended_of, procedure_sites};
-ghost use Rattle.pdb_frames.specs.ChosenSeen.{chosen_seen};
-ghost use Rattle.pdb_known_modules.specs.Seen.{extended_seen};
+ghost use Rattle.std.specs.Prelude.{IfOk, option_copied};
+ghost use Rattle.pdb_frames.specs.FailingSeen.{IsFailing, IsFailingInStream, IsFailingProcedure};
+ghost use Rattle.pdb_frames.specs.FailingSeen.{IsFailingSites};
+ghost use Rattle.pdb_known_modules.specs.KnownModules.{procedure_sites};
 ghost use Rattle.pdb_resolving.specs.Fault.{Answers};
 
 use crate::choice::Chosen;
@@ -41,8 +38,7 @@ fn failing_sites<I: ModuleTables>(
     module_index: u16,
     chosen: Chosen<'_, '_>,
 ) -> std::result::Result<Option<Part>, AllocError>
-    ensures { IfOk result (λ p. p
-        ≡ failing_of_sites module_index (I.held module_info.now) (chosen_seen chosen.entry)) }
+    ensures { IfOk result (IsFailingSites module_index (I.held module_info.now) chosen.entry) }
 {
     let Chosen::Procedure(_, procedure) = chosen else {
         return Ok(None);
@@ -62,9 +58,8 @@ fn failing_procedure<I: ModuleTables>(
     module_index: u16,
     chosen: Chosen<'_, '_>,
 ) -> std::result::Result<Option<Part>, AllocError>
-    ensures { IfOk result (λ p. p
-        ≡ failing_of_procedure module_index (I.held module_info.now)
-        (extended_seen extended.now) (chosen_seen chosen.entry)) }
+    ensures { IfOk result (IsFailingProcedure module_index (I.held module_info.now) extended.now
+        chosen.entry) }
 {
     let start = chosen.start();
     match FunctionRows::read(alloc, &extended.line_program, start) {
@@ -82,9 +77,7 @@ fn failing_module<I: ModuleTables>(
     module_index: u16,
     chosen: Chosen<'_, '_>,
 ) -> std::result::Result<Option<Part>, AllocError>
-    ensures { IfOk result (λ p. p
-        ≡ failing_by module_index (I.held module_info.now) (chosen_seen chosen.entry)
-        (extended_of (I.held module_info.now))) }
+    ensures { IfOk result (IsFailingInStream module_index (I.held module_info.now) chosen.entry) }
 {
     match read_extended(alloc, module_info) {
         Ok(extended) => failing_procedure(alloc, module_info, &extended, module_index, chosen),
@@ -105,8 +98,7 @@ pub fn failing_in<I: ModuleTables>(
     known: Option<&BasicModuleInfo<'_, I>>,
     chosen: Chosen<'_, '_>,
 ) -> std::result::Result<Option<Part>, AllocError>
-    ensures { IfOk result (λ p. p
-        ≡ failing_in_module module_index (option_copied known.entry) (chosen_seen chosen.entry)) }
+    ensures { IfOk result (IsFailing module_index (option_copied known.entry) chosen.entry) }
 {
     let Some(known) = known else {
         return Ok(None);

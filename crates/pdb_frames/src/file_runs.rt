@@ -4,13 +4,11 @@ ghost use Rattle.std.specs.Prelude.{◌≡◌, IfOk, Ok, option_copied};
 ghost use Rattle.pdb_frames.specs.ChosenSeen.{chosen_seen};
 ghost use Rattle.pdb_frames.specs.Choice as choice;
 ghost use Rattle.pdb_frames.specs.Files.{file_named as file_of_name, row_key as key_of_row};
-ghost use Rattle.pdb_frames.specs.FileRuns.{file_run_in as file_run_of_stream, file_run_of};
-ghost use Rattle.pdb_frames.specs.FileRuns.{rows_in, run_by_rows, run_if_read};
+ghost use Rattle.pdb_frames.specs.FileRuns.{run_by_rows};
+ghost use Rattle.pdb_frames.specs.RunsSeen.{RunsByPublicRows, RunsByRows, RunsIn, RunsInData};
 ghost use Rattle.pdb_owners.specs.FileAnswers.{file_seen};
 ghost use Rattle.pdb_known_modules.specs.KnownModules.{extended_of};
 ghost use Rattle.pdb_known_modules.specs.Seen.{extended_seen};
-ghost use Rattle.pdb_module_data.specs.FunctionLine.{function_rows};
-ghost use Rattle.pdb_resolving.specs.Fault.{Answers, lifted};
 
 use crate::choice::Chosen;
 use crate::parts::ContextParts;
@@ -73,9 +71,7 @@ fn procedure_run<'m, I: ModuleTables>(
     stretch: Stretch,
 ) -> Result<(FileKey, u32)>
     requires { extended_of known.now.stream ≡ Ok (extended_seen extended.now) }
-    ensures { let program = (extended_seen extended.now).program in
-        Answers (λ run. run) result (run_if_read program stretch.place stretch.far
-        (rows_in known.now.stream program (choice.Proc procedure.now))) }
+    ensures { RunsByRows known.now extended.now (choice.Proc procedure.now) stretch result }
 {
     if let Some(read) = known.extended_procedure(number, procedure) {
         return Ok(stretch.run_by_rows(&extended.line_program, read.rows));
@@ -95,9 +91,7 @@ fn public_run<'m, I: ModuleTables>(
     stretch: Stretch,
 ) -> Result<(FileKey, u32)>
     requires { extended_of known.now.stream ≡ Ok (extended_seen extended.now) }
-    ensures { let program = (extended_seen extended.now).program in
-        Answers (λ run. run) result (run_if_read program stretch.place stretch.far
-        (lifted (function_rows program start))) }
+    ensures { RunsByPublicRows extended.now start stretch result }
 {
     if let Some(rows) = known.public_rows(start) {
         return Ok(stretch.run_by_rows(&extended.line_program, rows));
@@ -116,9 +110,7 @@ fn chosen_run<'m, I: ModuleTables>(
     stretch: Stretch,
 ) -> Result<(FileKey, u32)>
     requires { extended_of known.now.stream ≡ Ok (extended_seen extended.now) }
-    ensures { let program = (extended_seen extended.now).program in
-        Answers (λ run. run) result (run_if_read program stretch.place stretch.far
-        (rows_in known.now.stream program (chosen_seen chosen.entry))) }
+    ensures { RunsByRows known.now extended.now (chosen_seen chosen.entry) stretch result }
 {
     match chosen {
         Chosen::Procedure(number, procedure) => {
@@ -137,8 +129,7 @@ fn data_run<'m, I: ModuleTables>(
     chosen: Chosen<'_, '_>,
     stretch: Stretch,
 ) -> Result<(FileKey, u32)>
-    ensures { Answers (λ run. run) result (file_run_of_stream known.now.stream
-        (chosen_seen chosen.entry) stretch.place stretch.far) }
+    ensures { RunsInData known.now (chosen_seen chosen.entry) stretch result }
 {
     if let Some(extended) = known.extended() {
         return chosen_run(alloc, known, extended, chosen, stretch);
@@ -160,8 +151,7 @@ pub fn file_run_in<I: ModuleTables>(
     chosen: Chosen<'_, '_>,
     stretch: Stretch,
 ) -> Result<(FileKey, u32)>
-    ensures { Answers (λ run. run) result (file_run_of (option_copied known.entry)
-        (chosen_seen chosen.entry) stretch.place stretch.far) }
+    ensures { RunsIn (option_copied known.entry) (chosen_seen chosen.entry) stretch result }
 {
     match known {
         None => Ok((FileKey::NoFile, stretch.far)),

@@ -1,16 +1,15 @@
 //! How far the frames at a place in a chosen function go on.
 
 ghost use Rattle.std.specs.Prelude.{◌≡◌, ◌++◌, IfOk, Ok, option_copied};
-ghost use Rattle.pdb_addresses.specs.SectionRun.{up_to_next};
 ghost use Rattle.pdb_frames.specs.ChosenSeen.{chosen_seen};
 ghost use Rattle.pdb_frames.specs.Choice as choice;
-ghost use Rattle.pdb_frames.specs.FrameRuns.{chosen_cuts, count_if_read, count_in, cuts_in};
-ghost use Rattle.pdb_frames.specs.FrameRuns.{cuts_in_stream, public_cuts};
+ghost use Rattle.pdb_frames.specs.FrameRuns.{cuts_in};
+ghost use Rattle.pdb_frames.specs.RunsSeen.{IsNextCut, ReachesByPublicRows, ReachesByRows};
+ghost use Rattle.pdb_frames.specs.RunsSeen.{ReachesIn, ReachesInData};
 ghost use Rattle.pdb_known_modules.specs.KnownModules.{extended_of};
 ghost use Rattle.pdb_known_modules.specs.Seen.{extended_seen};
 ghost use Rattle.pdb_module_data.specs.FunctionLine.{row_starts};
 ghost use Rattle.pdb_module_data.specs.InlinePieces.{cuts_of};
-ghost use Rattle.pdb_resolving.specs.Fault.{Answers};
 
 use crate::choice::Chosen;
 use crate::file_runs::Stretch;
@@ -26,8 +25,7 @@ use std::alloc::{AllocError, Global};
 /// procedure's rows and sites.
 #[tactic(auto, using(crate::proofs::FrameRunSteps::next_of_both))]
 fn procedure_count_by(stretch: Stretch, rows: &FunctionRows, ranges: &InlineRanges<'_>) -> u32
-    ensures { result ≡ up_to_next (row_starts rows.now ++ cuts_of ranges.now.rows)
-        stretch.place.offset stretch.far }
+    ensures { IsNextCut (row_starts rows.now ++ cuts_of ranges.now.rows) stretch result }
 {
     let offset = stretch.place.offset;
     rows.to_next_start(offset, ranges.to_next_cut(offset, stretch.far))
@@ -45,9 +43,7 @@ fn procedure_count<'m, I: ModuleTables>(
     stretch: Stretch,
 ) -> Result<u32>
     requires { extended_of known.now.stream ≡ Ok (extended_seen extended.now) }
-    ensures { Answers (λ n. n) result (count_if_read (chosen_cuts known.now.stream
-        (extended_seen extended.now) (choice.Proc procedure.now)) stretch.place.offset
-        stretch.far) }
+    ensures { ReachesByRows known.now extended.now (choice.Proc procedure.now) stretch result }
 {
     if let Some(read) = known.extended_procedure(number, procedure) {
         return Ok(procedure_count_by(stretch, read.rows, read.ranges));
@@ -67,8 +63,7 @@ fn public_count<'m, I: ModuleTables>(
     stretch: Stretch,
 ) -> Result<u32>
     requires { extended_of known.now.stream ≡ Ok (extended_seen extended.now) }
-    ensures { Answers (λ n. n) result (count_if_read (public_cuts
-        (extended_seen extended.now).program start) stretch.place.offset stretch.far) }
+    ensures { ReachesByPublicRows extended.now start stretch result }
 {
     let offset = stretch.place.offset;
     if let Some(rows) = known.public_rows(start) {
@@ -88,9 +83,7 @@ fn chosen_count<'m, I: ModuleTables>(
     stretch: Stretch,
 ) -> Result<u32>
     requires { extended_of known.now.stream ≡ Ok (extended_seen extended.now) }
-    ensures { Answers (λ n. n) result (count_if_read (chosen_cuts known.now.stream
-        (extended_seen extended.now) (chosen_seen chosen.entry)) stretch.place.offset
-        stretch.far) }
+    ensures { ReachesByRows known.now extended.now (chosen_seen chosen.entry) stretch result }
 {
     match chosen {
         Chosen::Procedure(number, procedure) => {
@@ -111,8 +104,7 @@ fn data_count<'m, I: ModuleTables>(
     chosen: Chosen<'_, '_>,
     stretch: Stretch,
 ) -> Result<u32>
-    ensures { Answers (λ n. n) result (count_if_read (cuts_in_stream known.now.stream
-        (chosen_seen chosen.entry)) stretch.place.offset stretch.far) }
+    ensures { ReachesInData known.now (chosen_seen chosen.entry) stretch result }
 {
     if let Some(extended) = known.extended() {
         return chosen_count(alloc, known, extended, chosen, stretch);
@@ -130,8 +122,7 @@ fn count_of_frames<I: ModuleTables>(
     chosen: Chosen<'_, '_>,
     stretch: Stretch,
 ) -> Result<u32>
-    ensures { Answers (λ n. n) result (count_in (option_copied known.entry)
-        (chosen_seen chosen.entry) stretch.place stretch.far) }
+    ensures { ReachesIn (option_copied known.entry) (chosen_seen chosen.entry) stretch result }
 {
     match known {
         None => Ok(stretch.far),
@@ -152,8 +143,8 @@ pub fn frames_count_in<I: ModuleTables>(
     chosen: Chosen<'_, '_>,
     stretch: Stretch,
 ) -> std::result::Result<u32, AllocError>
-    ensures { IfOk result (λ n. n ≡ up_to_next (cuts_in (option_copied known.entry)
-        (chosen_seen chosen.entry)) stretch.place.offset stretch.far) }
+    ensures { IfOk result (IsNextCut
+        (cuts_in (option_copied known.entry) (chosen_seen chosen.entry)) stretch) }
 {
     match count_of_frames(alloc, known, chosen, stretch) {
         Ok(count) => Ok(count),

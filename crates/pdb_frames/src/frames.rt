@@ -1,31 +1,27 @@
 //! The frames at a place in a chosen function.
 
-ghost use Rattle.std.specs.Prelude.{◌≡◌, Ok, IfOk, map, option_copied, option_map, option_and_then};
+ghost use Rattle.std.specs.Prelude.{◌≡◌, Ok, Some, IfOk, option_copied, option_map};
 ghost use Rattle.std.specs.Arc.{arc_str_bytes};
 ghost use Rattle.std.specs.Cow.{cow_str_bytes};
-ghost use Rattle.pdb_container.specs.Fault.{Gives, ◌>>=◌ as and_then};
-ghost use Rattle.pdb_module_data.specs.FunctionLine.{file_text, function_row, row_at};
-ghost use Rattle.pdb_module_data.specs.InlinedCalls.{call_rows, calls_over};
+ghost use Rattle.pdb_container.specs.Fault.{Gives};
+ghost use Rattle.pdb_module_data.specs.FunctionLine.{function_row, row_at};
 ghost use Rattle.pdb_module_data.specs.InlinePieces.{StandForSites};
-ghost use Rattle.pdb_resolving.specs.Fault.{Answers};
 ghost use Rattle.pdb_names.specs.Printing.{env_of};
 ghost use Rattle.pdb_frames.specs.Choice as choice;
-ghost use Rattle.pdb_frames.specs.FramesAt.{frames_in as frames_of_module, row_and_calls};
-ghost use Rattle.pdb_frames.specs.FramesAt.{frames_in_data as frames_of_data};
 ghost use Rattle.pdb_frames.specs.FramesAt.{frame_row as frame_row_of, call_row as call_row_of};
-ghost use Rattle.pdb_frames.specs.FramesAt.{call_frame as frame_of_call, function_frame_row};
-ghost use Rattle.pdb_frames.specs.FramesAt.{function_frame as frame_of_function, nothing};
+ghost use Rattle.pdb_frames.specs.FramesAt.{function_frame_row, named_file};
+ghost use Rattle.pdb_frames.specs.FramesSeen.{AreOfCalls, ChecksFrames, FindsCalls, FramesIn};
+ghost use Rattle.pdb_frames.specs.FramesSeen.{FramesInData, IsCallFrame, IsFunctionFrame};
+ghost use Rattle.pdb_frames.specs.FramesSeen.{calls_among, program_of, site_rows};
 ghost use Rattle.pdb_known_modules.specs.KnownModules.{extended_of};
-ghost use Rattle.pdb_frames.specs.Choice.{Parts};
 ghost use Rattle.pdb_frames.specs.ChosenSeen.{chosen_seen};
-ghost use Rattle.pdb_names.specs.Env.{Env};
 ghost use Rattle.pdb_known_modules.specs.Seen.{extended_seen};
 
 use crate::choice::{Chosen, rva_of};
 use crate::chosen_name::name_of;
 use crate::parts::ContextParts;
 use pdb_addresses::PdbInternalSectionOffset;
-use pdb_indices::FileIndex;
+use pdb_container::FileIndex;
 use pdb_known_modules::{
     BasicModuleInfo, ExtendedModuleInfo, read_extended, read_extended_procedure,
 };
@@ -49,12 +45,10 @@ fn row_and_calls_by<'a>(
     ranges: &InlineRanges<'a>,
     place: PdbInternalSectionOffset,
 ) -> std::result::Result<(Option<LineRow>, Vec<InlinedCall>), AllocError>
-    requires { StandForSites
-        (call_rows (extended_seen extended.now).inlinees procedure.now.offset) ranges.now }
+    requires { StandForSites (site_rows extended.now procedure.now) ranges.now }
     ensures row { IfOk result (λ r. r.0 ≡ row_at rows.now place.offset) }
-    ensures calls { IfOk result (λ r. (r.1).items
-        ≡ calls_over (call_rows (extended_seen extended.now).inlinees procedure.now.offset)
-        ranges.now.sites place) }
+    ensures calls { IfOk result (λ r. r.1.items
+        ≡ calls_among extended.now procedure.now ranges.now.sites place) }
 {
     let calls = ranges.calls_over(alloc, &extended.inlinees, procedure.offset, place)?;
     Ok((rows.at(place.offset), calls))
@@ -73,8 +67,7 @@ fn procedure_row_and_calls<'m, I: ModuleTables>(
     place: PdbInternalSectionOffset,
 ) -> Result<(Option<LineRow>, Vec<InlinedCall>)>
     requires { extended_of (known.now).stream ≡ Ok (extended_seen extended.now) }
-    ensures { Answers (λ r. (r.0, r.1.items)) result (row_and_calls (known.now).stream
-        (extended_seen extended.now) (choice.Proc procedure.now) place) }
+    ensures { FindsCalls known.now extended.now (choice.Proc procedure.now) place result }
 {
     if let Some(read) = known.extended_procedure(number, procedure) {
         let found = row_and_calls_by(alloc, extended, procedure, read.rows, read.ranges, place)?;
@@ -116,8 +109,7 @@ fn row_and_calls_in<'m, I: ModuleTables>(
     place: PdbInternalSectionOffset,
 ) -> Result<(Option<LineRow>, Vec<InlinedCall>)>
     requires { extended_of (known.now).stream ≡ Ok (extended_seen extended.now) }
-    ensures { Answers (λ r. (r.0, r.1.items)) result (row_and_calls (known.now).stream
-        (extended_seen extended.now) (chosen_seen chosen.entry) place) }
+    ensures { FindsCalls known.now extended.now (chosen_seen chosen.entry) place result }
 {
     match chosen {
         Chosen::Procedure(number, procedure) => {
@@ -137,8 +129,8 @@ fn file_of<'a>(
     extended: &ExtendedModuleInfo<'_>,
     file: Option<FileIndex>,
 ) -> std::result::Result<Option<CowStr<'a>>, AllocError>
-    ensures { IfOk result (λ n. option_map cow_str_bytes n ≡ option_and_then (λ f. file_text
-        (extended_seen extended.now).program parts.now.names f.0) file) }
+    ensures { IfOk result (λ n. option_map cow_str_bytes n
+        ≡ named_file parts.now (program_of extended.now) file) }
 {
     match file {
         None => Ok(None),
@@ -191,8 +183,8 @@ fn call_frame<'a, P: ModuleProvider>(
     call: InlinedCall,
 ) -> std::result::Result<SharedFrame<'a>, AllocError>
     ensures same { namer.new ≡ namer.old }
-    ensures frame { IfOk result (λ f. f ≡ frame_of_call parts.now
-        (env_of P.provided namer.old module_index) (extended_seen extended.now).program call) }
+    ensures frame { IfOk result (IsCallFrame parts.now (env_of P.provided namer.old module_index)
+        extended.now call) }
 {
     let function = namer.inlined_name(alloc, module_index, call.inlinee)?;
     let file = file_of(alloc, parts, extended, call.file)?;
@@ -214,9 +206,8 @@ fn call_frames<'a, P: ModuleProvider>(
     calls: &[InlinedCall],
 ) -> std::result::Result<Vec<SharedFrame<'a>>, AllocError>
     ensures same { namer.new ≡ namer.old }
-    ensures frames { IfOk result (λ v. v.items ≡ map (frame_of_call parts.now
-        (env_of P.provided namer.old module_index) (extended_seen extended.now).program)
-        calls.now) }
+    ensures frames { IfOk result (AreOfCalls parts.now (env_of P.provided namer.old module_index)
+        extended.now calls.now) }
 {
     let mut frames = Vec::with_capacity(alloc, calls.len() + 1)?;
     for call in calls {
@@ -235,7 +226,7 @@ fn function_frame<'a>(
     section: u16,
     row: Option<LineRow>,
 ) -> std::result::Result<SharedFrame<'a>, AllocError>
-    ensures { IfOk result (λ f. f ≡ frame_of_function parts.now (extended_seen extended.now).program
+    ensures { IfOk result (IsFunctionFrame parts.now extended.now
         (option_map arc_str_bytes function) section row) }
 {
     match row {
@@ -282,9 +273,8 @@ fn frames_by<'a, 'm, P: ModuleProvider>(
 ) -> Result<Vec<SharedFrame<'a>>>
     requires extended { extended_of (known.now).stream ≡ Ok (extended_seen extended.now) }
     ensures same { namer.new ≡ namer.old }
-    ensures frames { Answers (λ v. v.items) result (frames_of_data parts.now
-        (env_of P.provided namer.old at.entry.module_index) known.now
-        (chosen_seen at.entry.chosen) at.entry.place) }
+    ensures frames { FramesInData parts.now (env_of P.provided namer.old) known.now at.entry
+        result }
 {
     let PlaceInFunction {
         module_index,
@@ -318,9 +308,8 @@ fn frames_in_data<'a, P: ModuleProvider>(
     at: PlaceInFunction<'_, 'a>,
 ) -> Result<Vec<SharedFrame<'a>>>
     ensures same { namer.new ≡ namer.old }
-    ensures frames { Answers (λ v. v.items) result (frames_of_data parts.now
-        (env_of P.provided namer.old at.entry.module_index) known.now
-        (chosen_seen at.entry.chosen) at.entry.place) }
+    ensures frames { FramesInData parts.now (env_of P.provided namer.old) known.now at.entry
+        result }
 {
     let Some(extended) = known.extended() else {
         let extended = read_extended(alloc, known.module_info)?;
@@ -342,9 +331,8 @@ pub fn frames_in<'a, P: ModuleProvider>(
     at: PlaceInFunction<'_, 'a>,
 ) -> Result<Vec<SharedFrame<'a>>>
     ensures same { namer.new ≡ namer.old }
-    ensures frames { Answers (λ v. v.items) result (frames_of_module parts.now
-        (env_of P.provided namer.old at.entry.module_index) (option_copied known.entry)
-        (chosen_seen at.entry.chosen) at.entry.place) }
+    ensures frames { FramesIn parts.now (env_of P.provided namer.old) (option_copied known.entry)
+        at.entry result }
 {
     match known {
         None => {
@@ -374,9 +362,7 @@ pub fn check_frames<I: ModuleTables>(
     chosen: Chosen<'_, '_>,
     place: PdbInternalSectionOffset,
 ) -> Result<()>
-    ensures { (p : Parts) (env : Env) → Answers (λ _. nothing) result
-        (and_then (frames_of_module p env (option_copied known.entry) (chosen_seen chosen.entry)
-        place) (λ _. Ok nothing)) }
+    ensures { ChecksFrames (option_copied known.entry) (chosen_seen chosen.entry) place result }
 {
     let Some(known) = known else {
         return Ok(());

@@ -1,14 +1,14 @@
 //! The parts that every question goes over.
 
-ghost use Rattle.std.specs.Prelude.{◌≡◌, ℕ, List, Ok, Option, option_map};
-ghost use Rattle.pdb_addresses.specs.Addresses.{IsOrdered, Map};
+ghost use Rattle.std.specs.Prelude.{◌≡◌, option_copied, option_map};
+ghost use Rattle.pdb_addresses.specs.Addresses.{IsOrdered};
 ghost use Rattle.pdb_container.specs.RawString.{raw_bytes};
 ghost use Rattle.pdb_contributions.specs.MergedContributions.{holder as holder_of};
-ghost use Rattle.pdb_resolving.specs.Fault.{Answers};
 ghost use Rattle.pdb_frames.specs.Choice.{decorated_at as decorated_name_at};
 ghost use Rattle.pdb_frames.specs.Choice.{is_decorated as is_decorated_name};
-ghost use Rattle.pdb_frames.specs.Parts.{outcome, parts_checked, parts_in_any_order, parts_of};
-ghost use Rattle.pdb_frames.specs.Parts.{parts_over};
+ghost use Rattle.pdb_frames.specs.Parts.{parts_checked, parts_over};
+ghost use Rattle.pdb_frames.specs.PartsSeen.{AreMade, Checks, ChecksParts, MakesInAnyOrder};
+ghost use Rattle.pdb_frames.specs.PartsSeen.{MakesParts};
 
 use pdb_addresses::{AddressMap, ImageSectionHeader, PdbInternalSectionOffset};
 use pdb_container::{RawString, StringTable};
@@ -94,7 +94,7 @@ fn read_through(
     global_symbols: &SymbolTable<'_>,
     debug_info: &DebugInformation<'_>,
 ) -> Result<()>
-    ensures { Answers (λ _. tt) result
+    ensures { Checks result
         (parts_checked sections.now global_symbols.now debug_info.now.contributions) }
 {
     check_symbols(global_symbols.iter())?;
@@ -104,7 +104,7 @@ fn read_through(
 
 impl<'a, 's> ContextParts<'a, 's> {
     /// The parts over functions and contributions that were read. `OutOfMemory` alone.
-    fn over(
+    fn over_functions(
         alloc: Global,
         sections: &[ImageSectionHeader],
         address_map: &'a AddressMap<'s>,
@@ -113,8 +113,8 @@ impl<'a, 's> ContextParts<'a, 's> {
         held: SectionContributions,
     ) -> Result<ContextParts<'a, 's>>
         requires { IsOrdered address_map.now }
-        ensures { Answers (λ p. p) result (Ok (parts_over sections.now address_map.now
-            (option_map (λ t. t.now) string_table.entry) functions.entry.items held)) }
+        ensures { AreMade result (parts_over sections.now address_map.now
+            (option_copied string_table.entry) functions.entry.items held) }
     {
         let SectionContributions {
             contributions,
@@ -149,13 +149,12 @@ impl<'a, 's> ContextParts<'a, 's> {
         debug_info: &DebugInformation<'_>,
     ) -> Result<ContextParts<'a, 's>>
         requires { IsOrdered address_map.now }
-        ensures { Answers (λ p. p) result
-            (parts_of sections.now address_map.now global_symbols.now debug_info.now.contributions
-            (option_map (λ t. t.now) string_table.entry)) }
+        ensures { MakesParts sections.now address_map.now global_symbols.now debug_info.now
+            string_table.entry result }
     {
         let functions = read_public_symbols(alloc, global_symbols.iter(), sections)?;
         let held = compute_section_contributions(alloc, debug_info, sections)?;
-        ContextParts::over(alloc, sections, address_map, string_table, functions, held)
+        ContextParts::over_functions(alloc, sections, address_map, string_table, functions, held)
     }
 
     /// Makes the parts as [`ContextParts::new`], where section contributions may stand in any
@@ -174,13 +173,12 @@ impl<'a, 's> ContextParts<'a, 's> {
         debug_info: &DebugInformation<'_>,
     ) -> Result<ContextParts<'a, 's>>
         requires { IsOrdered address_map.now }
-        ensures { Answers (λ p. p) result
-            (parts_in_any_order sections.now address_map.now global_symbols.now
-            debug_info.now.contributions (option_map (λ t. t.now) string_table.entry)) }
+        ensures { MakesInAnyOrder sections.now address_map.now global_symbols.now debug_info.now
+            string_table.entry result }
     {
         let functions = read_public_symbols(alloc, global_symbols.iter(), sections)?;
         let held = compute_section_contributions_in_any_order(alloc, debug_info, sections)?;
-        ContextParts::over(alloc, sections, address_map, string_table, functions, held)
+        ContextParts::over_functions(alloc, sections, address_map, string_table, functions, held)
     }
 
     /// Checks that the parts can be made, whatever the address map and the names are.
@@ -194,14 +192,16 @@ impl<'a, 's> ContextParts<'a, 's> {
         global_symbols: &SymbolTable<'_>,
         debug_info: &DebugInformation<'_>,
     ) -> Result<()>
-        ensures { (map : Map) (names : Option (List ℕ)) → Answers (λ _. tt) result (outcome
-            (parts_of sections.now map global_symbols.now debug_info.now.contributions names)) }
+        ensures { ChecksParts sections.now global_symbols.now debug_info.now.contributions result }
     {
         read_through(alloc, sections, global_symbols, debug_info)
     }
 
     /// Returns the contribution that holds a place.
-    pub fn holder(&self, place: PdbInternalSectionOffset) -> Option<ModuleSectionContribution>
+    pub fn holding_contribution(
+        &self,
+        place: PdbInternalSectionOffset,
+    ) -> Option<ModuleSectionContribution>
         ensures { result ≡ holder_of self.now.contributions place }
     {
         self.contributions.holder(place)

@@ -1,11 +1,9 @@
 //! How far along a section answers stay the same.
 
 ghost use Rattle.std.specs.Prelude.{◌≡◌, [], option_copied};
-ghost use Rattle.std.specs.List.{flat_map};
 ghost use Rattle.pdb_addresses.specs.SectionRun.{up_to_next};
-ghost use Rattle.pdb_known_modules.specs.KnownModules.{procedures_in};
-ghost use Rattle.pdb_known_modules.specs.SectionBounds.{contribution_bounds, procedure_bounds};
-ghost use Rattle.pdb_frames.specs.NearBounds.{public_bounds, bounds_near};
+ghost use Rattle.pdb_frames.specs.NearBounds.{bounds_near, contributions_near, publics_near};
+ghost use Rattle.pdb_frames.specs.NearBounds.{up_to_bound, up_to_procedure, up_to_shared};
 
 use crate::parts::ContextParts;
 use pdb_addresses::PdbInternalSectionOffset;
@@ -22,9 +20,7 @@ fn to_next_contribution(
     place: PdbInternalSectionOffset,
     far: u32,
 ) -> u32
-    ensures { result
-        ≡ up_to_next (flat_map (contribution_bounds place) parts.now.contributions)
-        place.offset far }
+    ensures { result ≡ up_to_next (contributions_near parts.now place) place.offset far }
 {
     parts.bounds.up_to_next(place, far)
 }
@@ -36,10 +32,7 @@ fn to_next_procedure<I: ModuleTables>(
     place: PdbInternalSectionOffset,
     far: u32,
 ) -> u32
-    ensures { result
-        ≡ up_to_next
-        (flat_map (procedure_bounds place) (procedures_in (option_copied known.entry)))
-        place.offset far }
+    ensures { result ≡ up_to_procedure (option_copied known.entry) place far }
 {
     match known {
         None => far,
@@ -50,8 +43,7 @@ fn to_next_procedure<I: ModuleTables>(
 /// Returns the lesser of `far` and the distance from a place to the next public entry.
 #[tactic(auto, using(crate::proofs::NextPublic::next_is_near, crate::proofs::NextPublic::none_is_near))]
 fn to_next_public(publics: &PublicList<'_>, place: PdbInternalSectionOffset, far: u32) -> u32
-    ensures { result
-        ≡ up_to_next (flat_map (public_bounds place) publics.now) place.offset far }
+    ensures { result ≡ up_to_next (publics_near publics.now place) place.offset far }
 {
     match publics.next_behind(place) {
         None => far,
@@ -69,9 +61,7 @@ fn to_next_of_all_modules(
     place: PdbInternalSectionOffset,
     far: u32,
 ) -> u32
-    ensures { result
-        ≡ up_to_next (flat_map (contribution_bounds place) parts.now.contributions) place.offset
-        (up_to_next (flat_map (public_bounds place) parts.now.publics) place.offset far) }
+    ensures { result ≡ up_to_shared parts.now place far }
 {
     let near = to_next_public(&parts.publics, place, far);
     to_next_contribution(parts, place, near)
@@ -99,9 +89,7 @@ pub fn to_next_bound<I: ModuleTables>(
     place: PdbInternalSectionOffset,
     limit: u32,
 ) -> u32
-    ensures { result
-        ≡ up_to_next (bounds_near parts.now (procedures_in (option_copied known.entry)) place)
-        place.offset limit }
+    ensures { result ≡ up_to_bound parts.now (option_copied known.entry) place limit }
 {
     let near = to_next_procedure(known, place, limit);
     to_next_of_all_modules(parts, place, near)

@@ -1,5 +1,5 @@
 -- What a module's own stream says of a place in it.
-use Rattle.std.specs.Prelude.{ℕ, List, [], slice_get, Option, None, Some, option_and_then}
+use Rattle.std.specs.Prelude.{◌≡◌, ℕ, List, [], slice_get, Option, None, Some, option_and_then}
 use Rattle.std.specs.Prelude.{Result, Ok, Err}
 use Rattle.pdb_container.specs.Fault as container
 use Rattle.pdb_container.specs.Fault.{◌>>=◌}
@@ -8,14 +8,14 @@ use Rattle.pdb_addresses.specs.declared.internal_section_offset.PdbInternalSecti
 }
 use Rattle.pdb_symbol_records.specs.Iteration.{symbols_left}
 use Rattle.pdb_lines.specs.LinesSubsections.{Program}
-use Rattle.pdb_inlinees.specs.Inlinees.{InlinedFunction}
+use Rattle.pdb_lines.specs.Inlinees.{InlinedFunction}
 use Rattle.pdb_symbols_modules.specs.ModuleStream.{ModuleStream, iteration_in, line_program_in}
 use Rattle.pdb_symbols_modules.specs.ModuleStream.{inlinees_in}
 use Rattle.pdb_module_data.specs.declared.function_rows.LineRow.{LineRow}
 use Rattle.pdb_module_data.specs.declared.inlined_calls.InlinedCall.{InlinedCall}
-use Rattle.pdb_module_data.specs.Procedures.{Procedure, procedures_of}
+use Rattle.pdb_module_data.specs.Procedures.{Procedure, procedures_of, over, sites_of_procedure}
 use Rattle.pdb_module_data.specs.FunctionLine.{if_read, function_rows}
-use Rattle.pdb_module_data.specs.Forest.{Site, SitesFault, InSymbols, Unsuccessful, sites_of}
+use Rattle.pdb_module_data.specs.Forest.{Site, SitesFault, InSymbols, Unsuccessful}
 use Rattle.pdb_module_data.specs.InlinedCalls.{inlinees_by_id, call_rows, calls_over}
 use Rattle.pdb_symbols_modules.specs.Modules.{Module}
 use Rattle.pdb_resolving.specs.Resolving.{Provided}
@@ -65,6 +65,11 @@ procedures_in (Some known) = known.procedures
 abbrev pub procedure_if_numbered : List Procedure → Option ℕ → Option Procedure
 procedure_if_numbered procedures number = option_and_then (λ k. slice_get procedures k) number
 
+-- a number, if there is one, is that of the procedure over a place
+abbrev pub IsNumberOver : List Procedure → PdbInternalSectionOffset → Option ℕ → Type 0
+IsNumberOver procedures place number =
+    procedure_if_numbered procedures number ≡ over procedures place
+
 -- ---- lines and inlined calls
 
 -- the line program of a module, and what gives its inlined functions by their ids
@@ -89,7 +94,7 @@ sites_lifted (Err Unsuccessful) = Err ProcedureInlineRangesUnsuccessful
 -- the inline sites of a procedure among the symbols of its module
 abbrev pub procedure_sites : ModuleStream → Procedure → Result (List Site) Fault
 procedure_sites stream q = lifted (iteration_in stream 4) >>= λ symbols.
-    sites_lifted (sites_of symbols.bytes (q.symbol_index).0 (q.end_symbol_index).0)
+    sites_lifted (sites_of_procedure symbols.bytes q)
 
 -- The line rows of a procedure, and then its inline sites.
 unfoldable pub extended_procedure_of :
@@ -104,5 +109,5 @@ unfoldable pub procedure_calls : ModuleStream → (ℕ → Option InlinedFunctio
     → PdbInternalSectionOffset → Result (List InlinedCall) Fault
 procedure_calls stream inlinees q place = do
   symbols ← lifted (iteration_in stream 4)
-  sites ← sites_lifted (sites_of symbols.bytes (q.symbol_index).0 (q.end_symbol_index).0)
+  sites ← sites_lifted (sites_of_procedure symbols.bytes q)
   Ok (calls_over (call_rows inlinees q.offset) sites place)

@@ -75,7 +75,7 @@ pub fn nothing_cached<'a, I: ModuleTables>(
 }
 
 /// Forgets what is cached: all slots are as empty as before the first question.
-fn forget<'a, I: ModuleTables>(cached: &mut CachedModules<'a, I>)
+fn forget_all_modules<'a, I: ModuleTables>(cached: &mut CachedModules<'a, I>)
     ensures { cached.new ≡ replicate (length cached.old) None }
 {
     empty_all(&mut cached.slots);
@@ -84,11 +84,11 @@ fn forget<'a, I: ModuleTables>(cached: &mut CachedModules<'a, I>)
 
 /// Forgets what is cached if it is more than the meter allows.
 #[tactic(auto, using(crate::proofs::KeptSteps::none_kept))]
-fn forget_if_full<'a, I: ModuleTables>(cached: &mut CachedModules<'a, I>)
+fn forget_modules_if_full<'a, I: ModuleTables>(cached: &mut CachedModules<'a, I>)
     ensures { (own : ℕ → Option ModuleData) → AreKept own cached.old → AreKept own cached.new }
 {
     if cached.meter.is_full() {
-        forget(cached);
+        forget_all_modules(cached);
     }
 }
 
@@ -133,7 +133,7 @@ fn forget_rows_at<'a, I: ModuleTables>(place: &mut KeptModule<'a, I>) -> u64
 }
 
 /// Forgets the line rows that are cached of the module with that index.
-fn forget_rows<'a, I: ModuleTables>(cached: &mut CachedModules<'a, I>, number: usize)
+fn forget_module_rows<'a, I: ModuleTables>(cached: &mut CachedModules<'a, I>, number: usize)
     requires { number < length cached.old }
     ensures { cached.new ≡ cached.old }
 {
@@ -142,7 +142,7 @@ fn forget_rows<'a, I: ModuleTables>(cached: &mut CachedModules<'a, I>, number: u
 }
 
 /// Forgets what is cached of the procedures of the module with that index.
-fn forget_procedures<'a, I: ModuleTables>(cached: &mut CachedModules<'a, I>, number: usize)
+fn forget_module_procedures<'a, I: ModuleTables>(cached: &mut CachedModules<'a, I>, number: usize)
     requires { number < length cached.old }
     ensures { cached.new ≡ cached.old }
 {
@@ -170,10 +170,10 @@ fn forget_of_procedures<'a, I: ModuleTables>(cached: &mut CachedModules<'a, I>, 
     ensures { cached.new ≡ cached.old }
 {
     if cached.meter.has_many_rows() {
-        forget_rows(cached, number);
+        forget_module_rows(cached, number);
     }
     if cached.meter.has_many_procedures() {
-        forget_procedures(cached, number);
+        forget_module_procedures(cached, number);
     }
 }
 
@@ -227,7 +227,7 @@ pub fn keep_module<'a, P: ModuleProvider>(
     ensures known { IfOk result (λ _. known_in kept.new module_index
         ≡ module_data (own_of (P.provided provider.now) modules.now module_index)) }
 {
-    forget_if_full(kept);
+    forget_modules_if_full(kept);
     leave_last(kept, module_index);
     if !is_empty_at(&kept.slots, module_index) {
         return Ok(());
@@ -266,7 +266,7 @@ pub fn keep_lines<'a, I: ModuleTables>(
 {
     if module_index < kept.slots.len() {
         let bytes = keep_lines_at(alloc, &mut kept.slots[module_index])?;
-        kept.meter.count(bytes);
+        kept.meter.count_bytes(bytes);
     }
     Ok(())
 }
@@ -281,7 +281,7 @@ fn keep_procedure_at<'a, I: ModuleTables>(
     ensures { kept_module.new ≡ kept_module.old }
 {
     match kept_module {
-        Some(Some(known)) => known.keep_procedure(alloc, number),
+        Some(Some(known)) => known.keep_rows_and_sites(alloc, number),
         _ => Ok(0),
     }
 }

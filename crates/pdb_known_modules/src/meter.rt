@@ -7,12 +7,14 @@ use pdb_symbols_modules::Module;
 use std::alloc::{AllocError, Global};
 use std::collections::BTreeSet;
 
-/// How many bytes may be cached whatever the modules are: 64 MB.
+/// How many bytes may be cached whatever the modules are: 64 MB. Questions to a database of 10 MB
+/// never get there; with less, random ones to greater databases would read modules again.
+/// docs/COSTS.md has it, and the limits below, under what is cached.
 const ALLOWED: u64 = 64 << 20;
 
 /// How many more bytes may be cached for each byte of the symbols and lines that were read. In all
 /// it is no more than this for each byte of the database, whose streams may list the same pages
-/// over and over.
+/// over and over. With it 100,000 addresses of the database of 89 MB in docs/PERFORMANCE.md fit.
 const FOR_EACH_BYTE: u64 = 4;
 
 /// How many bytes of the symbols and lines that were read don't count in the two limits below: 2 MB.
@@ -22,7 +24,8 @@ const UNCOUNTED: u64 = 2 << 20;
 
 /// How many bytes may be cached of modules but for their procedures, beside one for each eight bytes
 /// that count of the symbols and lines that were read: 64 KB. Past that a module is forgotten once
-/// another one is asked for, but only the first time.
+/// another one is asked for, but only the first time. This limit and the next one were tuned on the
+/// databases in docs/PERFORMANCE.md, to take no more memory there than the ported crate does.
 const ALLOWED_MODULES: u64 = 64 << 10;
 
 /// How many bytes may be cached of procedures, beside five for each eight bytes that count of the
@@ -78,14 +81,14 @@ impl Meter {
     }
 
     /// Counts bytes that were cached.
-    pub fn count(&mut self, bytes: u64) {
+    pub fn count_bytes(&mut self, bytes: u64) {
         self.cached = self.cached.saturating_add(bytes);
         self.greatest = self.greatest.max(bytes);
     }
 
     /// Counts bytes that were cached of a procedure.
     pub fn count_procedure(&mut self, bytes: u64) {
-        self.count(bytes);
+        self.count_bytes(bytes);
         self.procedures = self.procedures.saturating_add(bytes);
     }
 
@@ -131,7 +134,7 @@ impl Meter {
             self.allowed_modules = ALLOWED_MODULES.saturating_add(counted / 8);
             self.allowed_procedures = ALLOWED_PROCEDURES.saturating_add(counted / 8 * 5);
         }
-        self.count(known.memory_size());
+        self.count_bytes(known.memory_size());
         Ok(())
     }
 

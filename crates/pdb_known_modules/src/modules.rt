@@ -7,13 +7,13 @@ ghost use Rattle.std.specs.List.{flat_map};
 ghost use Rattle.pdb_addresses.specs.SectionRun.{up_to_next};
 ghost use Rattle.pdb_known_modules.specs.SectionBounds.{procedure_bounds as bounds_of_procedure};
 ghost use Rattle.pdb_container.specs.Fault.{Gives};
-ghost use Rattle.pdb_module_data.specs.Procedures.{over};
 ghost use Rattle.pdb_known_modules.specs.ProcedureData.{IsKeptOf, IsLentOf, IsOfStream};
 ghost use Rattle.pdb_known_modules.specs.SubsectionRows.{AreLentAt, AreRowsAt, IsNumberAt};
 ghost use Rattle.pdb_known_modules.specs.Seen.{extended_seen, AreExtendedHere};
 ghost use Rattle.pdb_known_modules.specs.KnownModules.{data_of_stream, data_if_there, extended_of};
-ghost use Rattle.pdb_known_modules.specs.KnownModules.{module_data, own_of, procedure_if_numbered};
+ghost use Rattle.pdb_known_modules.specs.KnownModules.{module_data, own_of};
 ghost use Rattle.pdb_known_modules.specs.KnownModules.{procedures_in as procedures_of_module};
+ghost use Rattle.pdb_known_modules.specs.KnownModules.{IsNumberOver};
 
 use crate::bounds::{SortedBounds, procedure_bounds};
 use crate::procedure_data::{KeptProcedure, LentProcedure, procedure_ranges};
@@ -224,14 +224,14 @@ impl<'a, I: ModuleTables> BasicModuleInfo<'a, I> {
     ///
     /// # Errors
     /// `AllocError` when memory runs out.
-    pub fn keep_procedure(
+    pub fn keep_rows_and_sites(
         &mut self,
         alloc: Global,
         number: usize,
     ) -> std::result::Result<u64, AllocError>
         ensures { self.new ≡ self.old }
     {
-        if self.is_kept(number) {
+        if self.has_rows_and_sites(number) {
             return Ok(0);
         }
         let Some(procedure) = self.procedures.as_slice().get(number) else {
@@ -244,7 +244,7 @@ impl<'a, I: ModuleTables> BasicModuleInfo<'a, I> {
     }
 
     /// Whether the inline sites of the procedure with that index are cached, and its line rows.
-    fn is_kept(&self, number: usize) -> bool {
+    fn has_rows_and_sites(&self, number: usize) -> bool {
         match slot_at(&self.kept_procedures, number) {
             Some(Some(data)) => self.subsection_rows.get(data.subsection).is_some(),
             _ => false,
@@ -258,7 +258,7 @@ impl<'a, I: ModuleTables> BasicModuleInfo<'a, I> {
     fn keep_sites(&mut self, alloc: Global, number: usize) -> std::result::Result<u64, AllocError>
         ensures { self.new ≡ self.old }
     {
-        if !is_empty_at(&self.kept_procedures, number) {
+        if !has_empty_slot(&self.kept_procedures, number) {
             return Ok(0);
         }
         match self.read_procedure(alloc, number)? {
@@ -331,7 +331,7 @@ impl<'a, I: ModuleTables> BasicModuleInfo<'a, I> {
 
     /// The number of the `DEBUG_S_LINES` of the function that begins at a place, if line program
     /// and inlinees are cached.
-    fn subsection_number(&self, start: PdbInternalSectionOffset) -> Option<usize>
+    fn subsection_if_cached(&self, start: PdbInternalSectionOffset) -> Option<usize>
         ensures { IsNumberAt (self.now).stream start result }
     {
         match self.extended() {
@@ -354,20 +354,20 @@ impl<'a, I: ModuleTables> BasicModuleInfo<'a, I> {
     ) -> std::result::Result<u64, AllocError>
         ensures { self.new ≡ self.old }
     {
-        let Some(number) = self.subsection_number(start) else {
+        let Some(number) = self.subsection_if_cached(start) else {
             return Ok(0);
         };
         if self.subsection_rows.get(number).is_some() {
             return Ok(0);
         }
-        match self.read_rows(alloc, start)? {
+        match self.rows_if_readable(alloc, start)? {
             None => Ok(0),
             Some(rows) => {
                 let bytes = rows.memory_size().saturating_add(SUBSECTION_ROWS_SIZE);
                 let rows = Box::new(alloc, rows)?;
                 self.procedures_size = self.procedures_size.saturating_add(bytes);
                 self.rows_size = self.rows_size.saturating_add(bytes);
-                self.subsection_rows.keep(number, rows);
+                self.subsection_rows.keep_subsection(number, rows);
                 Ok(bytes)
             }
         }
@@ -375,7 +375,7 @@ impl<'a, I: ModuleTables> BasicModuleInfo<'a, I> {
 
     /// The line rows of the function that begins at a place; `None` where line program and inlinees
     /// aren't cached, and where the rows have a fault.
-    fn read_rows(
+    fn rows_if_readable(
         &self,
         alloc: Global,
         start: PdbInternalSectionOffset,
@@ -396,13 +396,13 @@ impl<'a, I: ModuleTables> BasicModuleInfo<'a, I> {
     pub fn public_rows(&self, start: PdbInternalSectionOffset) -> Option<&FunctionRows>
         ensures { AreLentAt (self.now).stream start result }
     {
-        let number = self.subsection_number(start)?;
+        let number = self.subsection_if_cached(start)?;
         self.subsection_rows.get(number)
     }
 }
 
 /// Whether the slot with that number is there and empty.
-fn is_empty_at(slots: &[Option<Box<KeptProcedure<'_>>>], number: usize) -> bool
+fn has_empty_slot(slots: &[Option<Box<KeptProcedure<'_>>>], number: usize) -> bool
     ensures { (result ≡ true) ↔ (slice_get slots.now number ≡ Some None) }
 {
     matches!(slots.get(number), Some(None))
@@ -507,12 +507,11 @@ pub fn number_over<'a, I: ModuleTables>(
     known: Option<&BasicModuleInfo<'a, I>>,
     place: PdbInternalSectionOffset,
 ) -> Option<usize>
-    ensures { procedure_if_numbered (procedures_of_module (option_copied known.entry)) result
-        ≡ over (procedures_of_module (option_copied known.entry)) place }
+    ensures { IsNumberOver (procedures_of_module (option_copied known.entry)) place result }
 {
     match known {
         None => None,
-        Some(known) => known.procedures.number_over(place),
+        Some(known) => known.procedures.number_covering(place),
     }
 }
 

@@ -1,9 +1,9 @@
 //! What is read of a procedure once, for all places in it.
 
 ghost use Rattle.std.specs.Prelude.{◌≡◌, ◌↔◌, true, IfOk};
-ghost use Rattle.pdb_module_data.specs.Forest.{sites_of};
-ghost use Rattle.pdb_module_data.specs.InlinedCalls.{given_by, call_rows};
+ghost use Rattle.pdb_module_data.specs.InlinedCalls.{stored_rows};
 ghost use Rattle.pdb_module_data.specs.InlinePieces.{StandForSites};
+ghost use Rattle.pdb_module_data.specs.Procedures.{sites_of_procedure};
 ghost use Rattle.pdb_resolving.specs.Fault.{Answers};
 ghost use Rattle.pdb_known_modules.specs.KnownModules.{extended_procedure_of, procedure_sites};
 ghost use Rattle.pdb_known_modules.specs.KnownModules.{sites_lifted};
@@ -12,7 +12,7 @@ ghost use Rattle.pdb_known_modules.specs.Seen.{extended_seen};
 
 use crate::modules::ExtendedModuleInfo;
 use pdb_addresses::PdbInternalSectionOffset;
-use pdb_indices::SymbolIndex;
+use pdb_container::SymbolIndex;
 use pdb_module_data::{FunctionRows, InlineRanges, Inlinees, Procedure, SitesError};
 use pdb_resolving::{Error, ModuleTables, Result};
 use pdb_symbol_records::SymbolIter;
@@ -101,10 +101,9 @@ fn read_ranges<'a>(
     procedure: &Procedure<'_>,
     inlinees: &Inlinees<'a>,
 ) -> Result<InlineRanges<'a>>
-    ensures sites { Answers (λ r. r.sites) result (sites_lifted (sites_of symbols.entry.bytes
-        procedure.now.symbol_index.0 procedure.now.end_symbol_index.0)) }
-    ensures stand { IfOk result (λ r.
-        StandForSites (call_rows (given_by inlinees.now) procedure.now.offset) r) }
+    ensures sites { Answers (λ r. r.sites) result
+        (sites_lifted (sites_of_procedure symbols.entry.bytes procedure.now)) }
+    ensures stand { IfOk result (λ r. StandForSites (stored_rows inlinees.now procedure.now.offset) r) }
 {
     match InlineRanges::read(alloc, symbols, procedure, inlinees) {
         Ok(ranges) => Ok(ranges),
@@ -127,8 +126,8 @@ pub fn procedure_ranges<'a, I: ModuleTables>(
 ) -> Result<InlineRanges<'a>>
     ensures sites { Answers (λ r. r.sites) result
         (procedure_sites (I.held module_info.now) procedure.now) }
-    ensures stand { IfOk result (λ r. StandForSites
-        (call_rows (extended_seen extended.now).inlinees procedure.now.offset) r) }
+    ensures stand { IfOk result
+        (λ r. StandForSites (stored_rows extended.now.inlinees procedure.now.offset) r) }
 {
     let symbols = module_info.symbols()?;
     read_ranges(alloc, symbols, procedure, &extended.inlinees)
@@ -148,8 +147,8 @@ pub fn read_extended_procedure<'a, I: ModuleTables>(
 ) -> Result<ExtendedProcedureInfo<'a>>
     ensures read { Answers (λ d. (d.rows, d.ranges.sites)) result (extended_procedure_of
         (I.held module_info.now) (extended_seen extended.now).program procedure.now) }
-    ensures stand { IfOk result (λ d. StandForSites
-        (call_rows (extended_seen extended.now).inlinees procedure.now.offset) d.ranges) }
+    ensures stand { IfOk result
+        (λ d. StandForSites (stored_rows extended.now.inlinees procedure.now.offset) d.ranges) }
 {
     let rows = FunctionRows::read(alloc, &extended.line_program, procedure.offset)?;
     let ranges = procedure_ranges(alloc, module_info, extended, procedure)?;

@@ -59,7 +59,7 @@ impl SubsectionRows {
 
     /// Caches the rows of the subsection of that number.
     #[tactic(auto, using(crate::proofs::KeptRows::kept_now))]
-    pub fn keep(&mut self, number: usize, rows: Box<FunctionRows>)
+    pub fn keep_subsection(&mut self, number: usize, rows: Box<FunctionRows>)
         ensures { (stream : ModuleStream) → AreRowsOf stream number (box_value rows)
             → AreRowsOfStream stream (self.old).slots.items
             → AreRowsOfStream stream (self.new).slots.items }

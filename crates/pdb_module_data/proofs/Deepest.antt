@@ -7,7 +7,7 @@ use Rattle.pdb_addresses.specs.declared.internal_section_offset.PdbInternalSecti
 use Rattle.pdb_subsections.specs.declared.line_info.LineInfo.{LineInfo}
 use Rattle.pdb_symbol_records.specs.Forms.{InlineSiteForm}
 use Rattle.pdb_module_data.specs.Forest.{Site}
-use Rattle.pdb_module_data.specs.InlinedCalls.{is_over, deeper, deepest_from, deepest, IsDeepest}
+use Rattle.pdb_module_data.specs.InlinedCalls.{is_over, deeper, deepest_from, deepest, IsDeepest, NoneOver}
 
 -- of the sites from a number on that are over the place this one, by its number and depth, is the
 -- deepest, of equals the first
@@ -20,10 +20,6 @@ pub record IsBest (rows : InlineSiteForm → List LineInfo) (place : PdbInternal
   pub over : is_over rows place site ≡ true
   pub most : (k : ℕ) (other : Site) → slice_get sites k ≡ Some other → is_over rows place other ≡ true → other.depth ≤ found.1
   pub first : (k : ℕ) (other : Site) → slice_get sites k ≡ Some other → is_over rows place other ≡ true → k < index → other.depth < found.1
-
--- no site is over the place
-abbrev pub NoneOver : (InlineSiteForm → List LineInfo) → PdbInternalSectionOffset → List Site → Type 0
-NoneOver rows place sites = (k : ℕ) (other : Site) → slice_get sites k ≡ Some other → is_over rows place other ≡ true → ⊥
 
 -- that of what was found
 abbrev pub Best : (InlineSiteForm → List LineInfo) → PdbInternalSectionOffset → ℕ → List Site → Option (ℕ × ℕ) → Type 0

@@ -6,7 +6,7 @@ use Rattle.std.proofs.lemmas.Bool.Decides.{nat_tests}
 use Rattle.pdb_addresses.specs.declared.internal_section_offset.PdbInternalSectionOffset.{PdbInternalSectionOffset}
 use Rattle.pdb_subsections.specs.declared.line_info.LineInfo.{LineInfo}
 use Rattle.pdb_symbol_records.specs.Forms.{InlineSiteForm}
-use Rattle.pdb_inlinees.specs.InlinedRows.{covers}
+use Rattle.pdb_lines.specs.InlinedRows.{covers}
 use Rattle.pdb_pieces.specs.declared.span.Mark.{Mark}
 use Rattle.pdb_pieces.specs.declared.span.Span.{Span}
 use Rattle.pdb_pieces.specs.Spans.{best, better, mark_over, place_number}

@@ -5,7 +5,7 @@ use Rattle.std.specs.Option.{option_or}
 use mathlib.Core.Path.{fun_ext}
 use Rattle.pdb_container.specs.Fault.{Fault, ◌>>=◌}
 use Rattle.pdb_container.specs.Listing.{Listing, ending, before, whole}
-use Rattle.pdb_inlinees.specs.Inlinees.{InlinedFunction}
+use Rattle.pdb_lines.specs.Inlinees.{InlinedFunction}
 use Rattle.pdb_module_data.specs.InlinedCalls.{if_called, last_inlinee, inlinees_by_id}
 
 -- a function that is given for each id, unless one is still to come

@@ -7,10 +7,10 @@ use Rattle.std.specs.List.{find, list_any}
 use Rattle.std.proofs.lemmas.Bool.Decides.{nat_tests}
 use Rattle.std.proofs.lemmas.List.{length-append}
 use Rattle.std.proofs.Math.Seq.{drop-append_seam, take-append_seam}
-use Rattle.pdb_indices.specs.declared.index.IdIndex.{IdIndex}
+use Rattle.pdb_container.specs.declared.index.IdIndex.{IdIndex}
 use Rattle.pdb_addresses.specs.declared.internal_section_offset.PdbInternalSectionOffset.{PdbInternalSectionOffset}
 use Rattle.pdb_subsections.specs.declared.line_info.LineInfo.{LineInfo}
-use Rattle.pdb_inlinees.specs.InlinedRows.{covers}
+use Rattle.pdb_lines.specs.InlinedRows.{covers}
 use Rattle.pdb_module_data.specs.declared.call_rows.CallRow.{CallRow}
 use Rattle.pdb_module_data.specs.InlinedCalls.{has_length, call_by}
 use Rattle.pdb_module_data.specs.InlinePieces.{kept_rows, rows_of_sites, starts_of_sites, rows_between, covers_kept, call_by_kept, AreCut}

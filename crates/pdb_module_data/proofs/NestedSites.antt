@@ -1,10 +1,11 @@
 -- Sites lie in sites before them.
-use Rattle.std.proofs.Common.{◌≡◌, ℕ, zero, suc, ◌+◌, ◌≤◌, ◌⊎◌, inl, inr, List, [], ◌∷◌, ◌++◌, length, append_assoc, length-append, Option, Some, None, Ok, refl, sym, ap, subst, ◌∙◌, arith}
+use Rattle.std.proofs.Common.{◌≡◌, ℕ, zero, suc, ◌+◌, ◌≤◌, ◌⊎◌, inl, inr, List, [], ◌∷◌, ◌++◌, length, append_assoc, length-append, Option, Some, None, Result, Ok, Err, refl, sym, ap, subst, ◌∙◌, arith}
+use Rattle.std.specs.Prelude.{IfOk}
 use Rattle.std.specs.List.{slice_get}
 use Rattle.std.proofs.lemmas.Option.{slice_get_within}
 use Rattle.std.proofs.lemmas.List.{append-nil}
 use Rattle.pdb_symbol_records.specs.Forms.{InlineSiteForm}
-use Rattle.pdb_module_data.specs.Forest.{Forest, Empty, Tree, Site, numbered, sites_from}
+use Rattle.pdb_module_data.specs.Forest.{Forest, Empty, Tree, Site, SitesFault, numbered, sites_from}
 use Rattle.pdb_module_data.specs.InlinedCalls.{FitsParent, IsNested}
 use Rattle.pdb_module_data.proofs.ForestGrammar.{forest_is}
 
@@ -64,3 +65,10 @@ pub forest_nested : (bytes : List ℕ) (limit start : ℕ) (sites : List Site) �
 forest_nested bytes limit start sites e =
     let w = forest_is bytes limit start sites e in
     subst IsNested (sym w.3) (IsNested-numbered w.0 [] None 1 0 refl (record { each = λ k s f. absurd (omega (arith, slice_get_within [] k s f)) }) refl)
+
+nested_if_read : (read : Result (List Site) SitesFault) → ((sites : List Site) → read ≡ Ok sites → IsNested sites) → IfOk read IsNested
+nested_if_read (Ok sites) nested = nested sites refl
+nested_if_read (Err e) nested = tt
+
+pub forest_nested_if_read : (bytes : List ℕ) (limit start : ℕ) → IfOk (sites_from bytes limit start) IsNested
+forest_nested_if_read bytes limit start = nested_if_read (sites_from bytes limit start) (forest_nested bytes limit start)

@@ -1,6 +1,10 @@
 -- Where the names of the string table end.
-use Rattle.std.specs.Prelude.{◌≡◌, ℕ, ◌+◌, ◌==◌, List, [], ◌∷◌}
-use Rattle.std.specs.Prelude.{Option, None, Some, IfSome, if◌then◌else◌}
+use Rattle.std.specs.Prelude.{◌≡◌, ℕ, ◌+◌, ◌<◌, ◌≤◌, ◌==◌, List, [], ◌∷◌, length, slice_range}
+use Rattle.std.specs.Prelude.{Option, None, Some, IfSome, MatchOption, if◌then◌else◌, Ok, Err}
+use Rattle.std.specs.Prelude.{option_and_then}
+use Rattle.pdb_container.specs.Fault.{UnexpectedEof}
+use Rattle.pdb_container.specs.StringTable.{name_in, text_in}
+use Rattle.pdb_module_data.specs.FunctionLine.{if_read}
 
 -- where the name after each NUL begins, of bytes of which the first lies at a place
 abbrev pub after_nuls : ℕ → List ℕ → List ℕ
@@ -15,3 +19,18 @@ abbrev pub AreNamesOf : Option (List ℕ) → Option (List ℕ) → List ℕ →
 AreNamesOf None text starts = (text ≡ None) × (starts ≡ [])
 AreNamesOf (Some names) text starts =
     IfSome text (λ all. all ≡ names) × (starts ≡ after_nuls 0 names)
+
+-- the name at an offset ends there, before a NUL
+pub record EndsAt (names : List ℕ) (offset end : ℕ) : Type 0 where
+  pub from : offset ≤ end
+  pub within : end < length names
+  pub name : name_in names offset ≡ Ok (slice_range names offset end)
+
+-- where the name at an offset ends; no NUL ends it where there is no such place
+abbrev pub IsNameEnd : Option ℕ → List ℕ → ℕ → Type 0
+IsNameEnd end names offset =
+    MatchOption end (name_in names offset ≡ Err UnexpectedEof) (EndsAt names offset)
+
+-- the name at an offset as text; none where there is no table or no such name
+abbrev pub name_text : Option (List ℕ) → ℕ → Option (List ℕ)
+name_text table offset = option_and_then (λ names. if_read (text_in names offset)) table

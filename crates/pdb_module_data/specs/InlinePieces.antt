@@ -7,7 +7,7 @@ use Rattle.std.specs.Prelude.{◌≢◌, min, option_and_then, slice_get}
 use Rattle.std.specs.BTreeMap.{BTreeMap, get}
 use Rattle.std.specs.List.{find, flat_map}
 use Rattle.std.specs.Ordering.{nat_cmp}
-use Rattle.pdb_indices.specs.declared.index.IdIndex.{IdIndex}
+use Rattle.pdb_container.specs.declared.index.IdIndex.{IdIndex}
 use Rattle.pdb_addresses.specs.declared.internal_section_offset.PdbInternalSectionOffset.{
   PdbInternalSectionOffset,
 }
@@ -19,7 +19,7 @@ use Rattle.pdb_module_data.specs.declared.call_rows.CallRow.{CallRow}
 use Rattle.pdb_module_data.specs.declared.inlined_calls.CodeSpan.{CodeSpan}
 use Rattle.pdb_module_data.specs.declared.inlined_calls.InlinedCall.{InlinedCall}
 use Rattle.pdb_module_data.specs.Forest.{Site}
-use Rattle.pdb_module_data.specs.InlinedCalls.{deepest, has_length}
+use Rattle.pdb_module_data.specs.InlinedCalls.{deepest, has_length, RowsOfCalls}
 
 -- what is stored of a row: all that an answer needs, if the row covers anything
 abbrev pub kept_of : LineInfo → List CallRow
@@ -48,9 +48,21 @@ starts_of_sites rows from [] = from ∷ []
 starts_of_sites rows from (site ∷ sites) =
     from ∷ starts_of_sites rows (from + length (kept_rows (rows site.call))) sites
 
+-- a fact of sites and of the rows of calls, if these rows and starts are what is stored of them
+abbrev pub IfStored : List CallRow → List ℕ → List Site → (RowsOfCalls → List Site → Type 0)
+    → Type 0
+IfStored rows starts sites Fact =
+    (lines : RowsOfCalls) → rows ≡ rows_of_sites lines sites
+    → starts ≡ starts_of_sites lines 0 sites → Fact lines sites
+
 -- the rows from a number on and before another one
 abbrev pub rows_between : List CallRow → ℕ → ℕ → List CallRow
 rows_between rows from to = take (to - from) (drop from rows)
+
+-- the rows of the site with a number, by where those of each site start
+abbrev pub rows_at : List CallRow → List ℕ → ℕ → List CallRow
+rows_at rows starts number =
+    rows_between rows (slice_index starts number) (slice_index starts (number + 1))
 
 -- where a row begins, and where it ends: at 2^32 at the latest
 abbrev pub row_cuts : CallRow → List ℕ
@@ -81,6 +93,10 @@ site_spans rows number [] = []
 site_spans rows number (site ∷ sites) =
     map (site_row_span number site.depth) (kept_rows (rows site.call))
     ++ site_spans rows (number + 1) sites
+
+-- spans are what sites cover by their rows
+abbrev pub AreSpansOf : List Span → RowsOfCalls → List Site → Type 0
+AreSpansOf spans rows sites = spans ≡ site_spans rows 0 sites
 
 -- a row's start and length have 32 bits
 abbrev pub IsShortRow : CallRow → Type 0
@@ -130,8 +146,7 @@ AreFound rows (Some pieces) = StandForFirst pieces rows
 pub record AreAllFound (sites : ℕ) (rows : List CallRow) (starts : List ℕ)
     (pieces : BTreeMap ℕ (List Span)) : Type 0 where
   pub each : (k : ℕ) → k < sites
-      → AreFound (rows_between rows (slice_index starts k) (slice_index starts (k + 1)))
-      (get nat_cmp pieces k)
+      → AreFound (rows_at rows starts k) (get nat_cmp pieces k)
 
 -- pieces for rows, unless these lie apart, are added under a number that had none
 pub record AddsFound (old new : BTreeMap ℕ (List Span)) (number : ℕ) (rows : List CallRow)

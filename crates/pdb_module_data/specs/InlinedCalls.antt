@@ -1,18 +1,18 @@
 -- Inlined calls over a place: the rows of a site, the deepest site with a row over the place, and
 -- the sites that it lies in.
 use Rattle.std.specs.Prelude.{◌≡◌, ℕ, zero, suc, ◌+◌, ◌<◌, ◌≤◌, Bool, true, List, [], ◌∷◌, nat_lt}
-use Rattle.std.specs.Prelude.{◌==◌, unwrap_or, slice_get, Option, None, Some, option_map}
+use Rattle.std.specs.Prelude.{◌==◌, unwrap_or, length, slice_get, Option, None, Some, option_map}
 use Rattle.std.specs.Prelude.{option_and_then, if◌then◌else◌, Result, Ok}
 use Rattle.std.specs.Option.{option_or}
 use Rattle.std.specs.List.{list_any, find, flat_map}
-use Rattle.pdb_indices.specs.declared.index.IdIndex.{IdIndex}
+use Rattle.pdb_container.specs.declared.index.IdIndex.{IdIndex}
 use Rattle.pdb_addresses.specs.declared.internal_section_offset.PdbInternalSectionOffset.{
   PdbInternalSectionOffset,
 }
 use Rattle.pdb_subsections.specs.declared.line_info.LineInfo.{LineInfo}
 use Rattle.pdb_symbol_records.specs.Forms.{InlineSiteForm}
-use Rattle.pdb_inlinees.specs.Inlinees.{InlinedFunction}
-use Rattle.pdb_inlinees.specs.Inlinee.{inlined_function}
+use Rattle.pdb_lines.specs.Inlinees.{InlinedFunction}
+use Rattle.pdb_lines.specs.Inlinee.{inlined_function}
 use Rattle.pdb_module_data.specs.declared.inlinees.Inlinees.{Inlinees}
 use Rattle.std.specs.BTreeMap.{get}
 use Rattle.std.specs.Ordering.{nat_cmp}
@@ -20,10 +20,14 @@ use Rattle.pdb_container.specs.Fault.{Fault, ◌>>=◌}
 use Rattle.pdb_container.specs.Listing.{Listing, whole}
 use Rattle.pdb_module_data.specs.declared.inlined_calls.CodeSpan.{CodeSpan}
 use Rattle.pdb_module_data.specs.declared.inlined_calls.InlinedCall.{InlinedCall}
-use Rattle.pdb_inlinees.specs.InlinedRows.{inlined_rows, covers}
+use Rattle.pdb_lines.specs.InlinedRows.{inlined_rows, covers}
 use Rattle.pdb_module_data.specs.Forest.{Site}
 
 -- ---- rows
+
+-- what gives the rows of a call
+abbrev pub RowsOfCalls : Type 0
+RowsOfCalls = InlineSiteForm → List LineInfo
 
 -- a function, if it has this id
 abbrev pub if_called : InlinedFunction → ℕ → Option InlinedFunction
@@ -56,6 +60,11 @@ rows_by (Some function) start call = (inlined_rows start function call.annotatio
 abbrev pub call_rows : (ℕ → Option InlinedFunction) → PdbInternalSectionOffset → InlineSiteForm
     → List LineInfo
 call_rows inlinee start call = rows_by (inlinee (call.inlinee).0) start call
+
+-- the rows of calls in the procedure that begins at a place, by the inlined functions that are
+-- stored
+abbrev pub stored_rows : Inlinees → PdbInternalSectionOffset → RowsOfCalls
+stored_rows inlinees start = call_rows (given_by inlinees) start
 
 -- ---- the deepest site over a place, by the rows of calls
 
@@ -103,6 +112,26 @@ pub record IsDeepest (rows : InlineSiteForm → List LineInfo) (sites : List Sit
       → is_over rows place other ≡ true → other.depth ≤ site.depth
   pub first : (k : ℕ) (other : Site) → slice_get sites k ≡ Some other
       → is_over rows place other ≡ true → k < number → other.depth < site.depth
+
+-- no site is over the place
+abbrev pub NoneOver : RowsOfCalls → PdbInternalSectionOffset → List Site → Type 0
+NoneOver rows place sites =
+    (k : ℕ) (site : Site) → slice_get sites k ≡ Some site → is_over rows place site ≡ true → ⊥
+
+-- the site that is found over the place is the deepest one
+abbrev pub FindsDeepest : RowsOfCalls → List Site → PdbInternalSectionOffset → Type 0
+FindsDeepest rows sites place =
+    (number : ℕ) → deepest rows sites place ≡ Some number → IsDeepest rows sites place number
+
+-- where no site is found over the place, none is over it
+abbrev pub MissesNone : RowsOfCalls → List Site → PdbInternalSectionOffset → Type 0
+MissesNone rows sites place = deepest rows sites place ≡ None → NoneOver rows place sites
+
+-- the depth over the place is that of the site that is found
+abbrev pub IsDepthOfFound : RowsOfCalls → List Site → PdbInternalSectionOffset → Type 0
+IsDepthOfFound rows sites place =
+    (number : ℕ) (site : Site) → deepest rows sites place ≡ Some number
+    → slice_get sites number ≡ Some site → depth_over rows sites place ≡ site.depth
 
 -- ---- a site and those that it lies in
 
@@ -184,3 +213,14 @@ abbrev pub calls_over : (InlineSiteForm → List LineInfo) → List Site → Pdb
 calls_over rows sites place =
     flat_map (λ number. calls_of rows place (slice_get sites number))
     (chain_at sites (deepest rows sites place))
+
+-- these are the calls of a site and of those that it lies in, if sites lie in sites before them
+abbrev pub AreCallsFrom : List InlinedCall → PdbInternalSectionOffset → ℕ → RowsOfCalls → List Site
+    → Type 0
+AreCallsFrom calls place number rows sites =
+    IsNested sites
+    → calls ≡ flat_map (λ k. calls_of rows place (slice_get sites k)) (chain sites number)
+
+-- there are as many calls over a place as the deepest site over it is deep
+abbrev pub AreAsDeep : RowsOfCalls → List Site → PdbInternalSectionOffset → Type 0
+AreAsDeep rows sites place = length (calls_over rows sites place) ≡ depth_over rows sites place

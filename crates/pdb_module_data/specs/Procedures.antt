@@ -1,15 +1,16 @@
 -- The procedures of a module, and the one over a place.
 -- What counts as a procedure, and that separated code goes by the one before it, is what the
 -- pdb-addr2line crate does.
-use Rattle.std.specs.Prelude.{ℕ, ◌+◌, Bool, ◌&&◌, ◌||◌, List, [], ◌∷◌, ◌++◌, nat_lt, nat_le, ◌==◌}
+use Rattle.std.specs.Prelude.{◌≡◌, ℕ, ◌+◌, ◌<◌, Bool, ◌&&◌, ◌||◌, List, [], ◌∷◌, ◌++◌, nat_lt, nat_le, ◌==◌}
 use Rattle.std.specs.Prelude.{Option, None, Some, if◌then◌else◌, Result, Ok}
-use Rattle.std.specs.List.{list_any, position_or_len}
+use Rattle.std.specs.BTreeSet.{BTreeSet, contains as has_element}
+use Rattle.std.specs.List.{list_any, find, position_or_len}
 use Rattle.std.specs.declared.cmp.Ordering.{Ordering}
 use Rattle.std.specs.Ordering.{nat_cmp, ordering_then}
 use Rattle.pdb_container.specs.Fault.{Fault, ◌>>=◌}
 use Rattle.pdb_container.specs.Listing.{Listing, whole}
-use Rattle.pdb_indices.specs.declared.index.TypeIndex.{TypeIndex}
-use Rattle.pdb_indices.specs.declared.numbers.SymbolIndex.{SymbolIndex}
+use Rattle.pdb_container.specs.declared.index.TypeIndex.{TypeIndex}
+use Rattle.pdb_container.specs.declared.index_numbers.SymbolIndex.{SymbolIndex}
 use Rattle.pdb_addresses.specs.declared.internal_section_offset.PdbInternalSectionOffset.{
   PdbInternalSectionOffset,
 }
@@ -19,6 +20,7 @@ use Rattle.pdb_symbol_records.specs.Forms.{SymbolForm}
 use Rattle.pdb_symbol_records.specs.Kinds.{is_procedure, is_thunk, is_separated_code}
 use Rattle.pdb_symbol_records.specs.Records.{symbol_form_of}
 use Rattle.pdb_symbol_records.specs.Symbols.{Symbol}
+use Rattle.pdb_module_data.specs.Forest.{Site, SitesFault, sites_of}
 
 -- a procedure of a module: its symbol and the symbol that ends it, where its code begins, how many
 -- bytes of code it has, the index of its type, and its name
@@ -79,14 +81,19 @@ said_procedure last index (Ok (forms.Thunk t)) =
 said_procedure last index (Ok (forms.SeparatedCode code)) = separated_from last index code
 said_procedure last index other = None
 
+-- what a symbol says as a procedure, by its bytes
+abbrev pub said_by : Option Procedure → Symbol → Option Procedure
+said_by last s = said_procedure last s.index (symbol_form_of s)
+
 -- a procedure that may be there, if it has code
+
 abbrev pub with_code : Option Procedure → Option Procedure
 with_code None = None
 with_code (Some q) = if q.len == 0 then None else Some q
 
 -- the procedure that is taken from a symbol, if one is
 abbrev pub kept_of : Option Procedure → Symbol → Option Procedure
-kept_of last s = with_code (said_procedure last s.index (symbol_form_of s))
+kept_of last s = with_code (said_by last s)
 
 -- a procedure that may be taken, and those after it by the one that is taken last then
 abbrev pub kept_before : Option Procedure → Option Procedure → (Option Procedure → List Procedure)
@@ -110,7 +117,13 @@ place_cmp a b = ordering_then (nat_cmp a.0 b.0) (nat_cmp a.1 b.1)
 abbrev pub has_start : List Procedure → PdbInternalSectionOffset → Bool
 has_start procedures p = list_any (λ q. is_at q.offset p) procedures
 
+-- the set has the places at which procedures begin, and no other ones
+abbrev pub AreStartsOf : BTreeSet (ℕ × ℕ) → List Procedure → Type 0
+AreStartsOf starts procedures = (p : PdbInternalSectionOffset)
+    → has_element place_cmp starts (p.section, p.offset) ≡ has_start procedures p
+
 -- one more procedure, unless one of its start is there
+
 abbrev pub onto_new : List Procedure → Procedure → List Procedure
 onto_new procedures q = if has_start procedures q.offset then procedures else procedures ++ q ∷ []
 
@@ -122,6 +135,16 @@ firsts_onto procedures (q ∷ others) = firsts_onto (onto_new procedures q) othe
 -- the number of the first procedure that begins there; how many there are, if none does
 abbrev pub first_number : List Procedure → PdbInternalSectionOffset → ℕ
 first_number procedures p = position_or_len (λ q. is_at q.offset p) procedures
+
+-- the first procedure that begins at a place
+abbrev pub first_at : List Procedure → PdbInternalSectionOffset → Option Procedure
+first_at procedures p = find (λ q. is_at q.offset p) procedures
+
+-- the first procedure that begins where one does stands before the first one that begins where
+-- another does
+abbrev pub StandsBefore : List Procedure → Procedure → Procedure → Type 0
+StandsBefore procedures a b =
+    first_number procedures a.offset < first_number procedures b.offset
 
 -- the procedures among symbols: those that are taken, of one start the first
 abbrev pub procedures_among : List Symbol → List Procedure
@@ -153,3 +176,9 @@ later (Some a) (Some b) = if nat_lt (a.offset).offset (b.offset).offset then Som
 abbrev pub over : List Procedure → PdbInternalSectionOffset → Option Procedure
 over [] p = None
 over (q ∷ others) p = later (if_over q p) (over others p)
+
+-- ---- its inline sites
+
+-- the inline sites of a procedure of a module with these symbols
+abbrev pub sites_of_procedure : List ℕ → Procedure → Result (List Site) SitesFault
+sites_of_procedure symbols q = sites_of symbols q.symbol_index.0 q.end_symbol_index.0

@@ -4,7 +4,7 @@ ghost use Rattle.std.specs.Prelude.{◌≡◌, IfOk, map};
 ghost use Rattle.pdb_module_data.specs.BriefSites.{brief_of};
 
 use crate::inline_sites::Site;
-use pdb_indices::IdIndex;
+use pdb_container::IdIndex;
 use std::alloc::{AllocError, Global};
 
 /// What is stored of an inline site: the id of its function, and the site that it lies in. All else

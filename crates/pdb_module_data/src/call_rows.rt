@@ -4,7 +4,7 @@ ghost use Rattle.std.specs.Prelude.{◌≡◌, ◌+◌, ◌++◌, IfOk, OnOk, ma
 ghost use Rattle.std.specs.List.{find};
 ghost use Rattle.pdb_addresses.specs.SectionRun.{nearer as nearer_of, up_to_next};
 ghost use Rattle.pdb_pieces.specs.Spans.{place_number as number_of_place};
-ghost use Rattle.pdb_module_data.specs.InlinedCalls.{given_by, call_rows};
+ghost use Rattle.pdb_module_data.specs.InlinedCalls.{stored_rows};
 ghost use Rattle.pdb_module_data.specs.InlinePieces.{kept_rows as kept_of_rows, site_row_span};
 ghost use Rattle.pdb_module_data.specs.InlinePieces.{call_by_kept, covers_kept, AreShortRows};
 ghost use Rattle.pdb_module_data.specs.InlinePieces.{cuts_of as cuts_of_rows, row_cuts};
@@ -15,9 +15,8 @@ use crate::inline_sites::Site;
 use crate::inlined_calls::{CodeSpan, InlinedCall};
 use crate::inlinees::Inlinees;
 use pdb_addresses::PdbInternalSectionOffset;
-use pdb_container::FallibleIterator;
-use pdb_indices::{FileIndex, IdIndex};
-use pdb_inlinees::InlineeLineIterator;
+use pdb_container::{FallibleIterator, FileIndex, IdIndex};
+use pdb_lines::InlineeLineIterator;
 use pdb_pieces::{Begins, Mark, Pieces, Span, count_begun, place_number};
 use std::alloc::{AllocError, Global};
 
@@ -76,7 +75,7 @@ pub fn push_site_rows<'a>(
 ) -> Result<(), AllocError>
     ensures { OnOk result
         (kept.new.items ≡ kept.old.items
-        ++ kept_of_rows (call_rows (given_by inlinees.now) start (site.now).call)) }
+        ++ kept_of_rows (stored_rows inlinees.now start site.now.call)) }
 {
     match inlinees.get(site.call.inlinee) {
         None => Ok(()),
@@ -85,7 +84,7 @@ pub fn push_site_rows<'a>(
 }
 
 /// What a row of the site of this number covers, ranked by the site's depth.
-fn row_span(number: usize, depth: usize, row: CallRow) -> Span
+fn call_row_span(number: usize, depth: usize, row: CallRow) -> Span
     ensures span { result ≡ site_row_span number depth row }
     ensures short { IsShortRow row }
 {
@@ -112,7 +111,7 @@ pub fn push_spans(
     ensures short { OnOk result (AreShortRows rows.now) }
 {
     for row in rows {
-        spans.push(row_span(number, depth, *row))?;
+        spans.push(call_row_span(number, depth, *row))?;
     }
     Ok(())
 }
@@ -188,14 +187,14 @@ fn numbered_spans(alloc: Global, rows: &[CallRow]) -> Result<Vec<Span>, AllocErr
 {
     let mut spans = Vec::with_capacity(alloc, rows.len())?;
     for (number, row) in rows.iter().enumerate() {
-        spans.push(row_span(number, 0, *row))?;
+        spans.push(call_row_span(number, 0, *row))?;
     }
     Ok(spans)
 }
 
 /// Pieces of places with the number of the first row over each.
 #[tactic(auto, using(crate::proofs::CallRowSteps::stand_for_first))]
-fn row_pieces(alloc: Global, rows: &[CallRow]) -> Result<Pieces, AllocError>
+fn call_row_pieces(alloc: Global, rows: &[CallRow]) -> Result<Pieces, AllocError>
     ensures { IfOk result (λ pieces. StandForFirst pieces rows.now) }
 {
     let spans = numbered_spans(alloc, rows)?;
@@ -210,12 +209,12 @@ pub fn pieces_unless_apart(alloc: Global, rows: &[CallRow]) -> Result<Option<Pie
     if are_apart(rows) {
         return Ok(None);
     }
-    let pieces = row_pieces(alloc, rows)?;
+    let pieces = call_row_pieces(alloc, rows)?;
     Ok(Some(pieces))
 }
 
 /// The row with that number, if it is there.
-fn row_numbered(rows: &[CallRow], number: usize) -> Option<CallRow>
+fn call_row_numbered(rows: &[CallRow], number: usize) -> Option<CallRow>
     ensures { result ≡ slice_get rows.now number }
 {
     rows.get(number).copied()
@@ -223,7 +222,7 @@ fn row_numbered(rows: &[CallRow], number: usize) -> Option<CallRow>
 
 /// The row over a place, of rows that lie apart in ascending order: only the last one that begins
 /// there or before can be.
-fn row_by_halving(rows: &[CallRow], place: PdbInternalSectionOffset) -> Option<CallRow>
+fn call_row_by_halving(rows: &[CallRow], place: PdbInternalSectionOffset) -> Option<CallRow>
     requires { AreApart 0 rows.now }
     ensures { result ≡ find (covers_kept place) rows.now }
 {
@@ -231,7 +230,7 @@ fn row_by_halving(rows: &[CallRow], place: PdbInternalSectionOffset) -> Option<C
     if count == 0 {
         return None;
     }
-    let last = row_numbered(rows, count - 1)?;
+    let last = call_row_numbered(rows, count - 1)?;
     if covers(&last, place) {
         Some(last)
     } else {
@@ -240,7 +239,7 @@ fn row_by_halving(rows: &[CallRow], place: PdbInternalSectionOffset) -> Option<C
 }
 
 /// The first row over a place, by pieces.
-fn row_by_pieces(
+fn call_row_by_pieces(
     rows: &[CallRow],
     pieces: &Pieces,
     place: PdbInternalSectionOffset,
@@ -249,7 +248,7 @@ fn row_by_pieces(
     ensures { result ≡ find (covers_kept place) rows.now }
 {
     let number = pieces.value_at(place)?;
-    row_numbered(rows, number)
+    call_row_numbered(rows, number)
 }
 
 /// The first row that covers a place. Rows or pieces are halved.
@@ -262,8 +261,8 @@ fn row_over(
     ensures { result ≡ find (covers_kept place) rows.now }
 {
     match pieces {
-        None => row_by_halving(rows, place),
-        Some(pieces) => row_by_pieces(rows, pieces, place),
+        None => call_row_by_halving(rows, place),
+        Some(pieces) => call_row_by_pieces(rows, pieces, place),
     }
 }
 

@@ -1,14 +1,10 @@
 //! The deepest inline site over a place, by going over sites and what is stored of their rows.
 
-ghost use Rattle.std.specs.Prelude.{◌≡◌, List, None, Some, if◌then◌else◌, length, map};
+ghost use Rattle.std.specs.Prelude.{◌≡◌, None, Some, if◌then◌else◌, length};
 ghost use Rattle.std.specs.List.{list_any};
-ghost use Rattle.pdb_symbol_records.specs.Forms.{InlineSiteForm};
-ghost use Rattle.pdb_subsections.specs.declared.line_info.LineInfo.{LineInfo};
-ghost use Rattle.pdb_module_data.specs.BriefSites.{brief_of};
-ghost use Rattle.pdb_module_data.specs.Forest.{Site};
+ghost use Rattle.pdb_module_data.specs.BriefSites.{IfKept};
 ghost use Rattle.pdb_module_data.specs.InlinedCalls.{deeper, deepest};
-ghost use Rattle.pdb_module_data.specs.InlinePieces.{covers_kept, rows_of_sites, starts_of_sites};
-ghost use Rattle.pdb_module_data.specs.InlinePieces.{AreCut};
+ghost use Rattle.pdb_module_data.specs.InlinePieces.{covers_kept, AreCut};
 
 use crate::brief_sites::BriefSite;
 use crate::call_rows::{CallRow, covers};
@@ -61,11 +57,7 @@ pub fn deepest_of(
 ) -> Option<usize>
     requires cut { AreCut (length sites.now) of_sites.now.starts.items
         (length of_sites.now.rows.items) }
-    ensures { (whole : List Site) (lines : InlineSiteForm → List LineInfo)
-        → sites.now ≡ map brief_of whole
-        → of_sites.now.rows.items ≡ rows_of_sites lines whole
-        → of_sites.now.starts.items ≡ starts_of_sites lines 0 whole
-        → result ≡ deepest lines whole place }
+    ensures { IfKept sites.now of_sites.now (λ lines whole. result ≡ deepest lines whole place) }
 {
     let mut found = None;
     let mut number = sites.len();

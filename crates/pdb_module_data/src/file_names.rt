@@ -1,14 +1,10 @@
 //! The names of the string table, found by where they end.
 
-ghost use Rattle.std.specs.Prelude.{◌≡◌, ◌<◌, ◌≤◌, ◌^◌, ℕ, Ok, Err, IfOk};
-ghost use Rattle.std.specs.Prelude.{Option, MatchOption, IfSome, option_and_then, option_map};
+ghost use Rattle.std.specs.Prelude.{◌≡◌, ◌<◌, ◌≤◌, ◌^◌, ℕ, IfOk, Option, IfSome, option_map};
 ghost use Rattle.std.specs.Prelude.{List, length, slice_get, slice_range};
 ghost use Rattle.std.specs.Cow.{cow_str_bytes};
 ghost use Rattle.std.specs.Str.Lossy.{utf8_lossy};
-ghost use Rattle.pdb_container.specs.Fault.{UnexpectedEof};
-ghost use Rattle.pdb_container.specs.StringTable.{name_in, text_in};
-ghost use Rattle.pdb_module_data.specs.FileNames.{after_nuls, AreNamesOf};
-ghost use Rattle.pdb_module_data.specs.FunctionLine.{if_read};
+ghost use Rattle.pdb_module_data.specs.FileNames.{after_nuls, name_text, AreNamesOf, IsNameEnd};
 
 use pdb_container::{RawString, StringRef, StringTable};
 use pdb_pieces::count_begun;
@@ -83,9 +79,7 @@ fn start_numbered(starts: &[u32], number: usize) -> Option<u32>
 /// ends it.
 fn end_of_name(next_names: &[u32], offset: u32) -> Option<u32>
     requires { (names : List ℕ) × (next_names.now ≡ after_nuls 0 names) }
-    ensures { (names : List ℕ) → next_names.now ≡ after_nuls 0 names →
-        MatchOption result (name_in names offset ≡ Err UnexpectedEof) (λ end. (offset ≤ end) ×
-        (end < length names) × (name_in names offset ≡ Ok (slice_range names offset end))) }
+    ensures { (names : List ℕ) → next_names.now ≡ after_nuls 0 names → IsNameEnd result names offset }
 {
     let number = count_begun(next_names, u64::from(offset)).0;
     match start_numbered(next_names, number) {
@@ -174,8 +168,7 @@ impl<'t, 's> FileNames<'t, 's> {
     /// `AllocError` when memory runs out.
     pub fn text(&self, alloc: Global, name: StringRef) -> Result<Option<CowStr<'t>>, AllocError>
         ensures { IfOk result
-            (λ text. option_map cow_str_bytes text
-            ≡ option_and_then (λ names. if_read (text_in names name.0)) self.now) }
+            (λ text. option_map cow_str_bytes text ≡ name_text self.now name.0) }
     {
         let Some(table) = self.strings else {
             return Ok(None);

@@ -5,7 +5,7 @@ ghost use Rattle.std.specs.Cow.{cow_str_bytes};
 ghost use Rattle.pdb_module_data.specs.FunctionLine.{file_text};
 
 use crate::file_names::FileNames;
-use pdb_indices::FileIndex;
+use pdb_container::FileIndex;
 use pdb_lines::LineProgram;
 use std::alloc::{AllocError, Global};
 use std::borrow::CowStr;

@@ -12,8 +12,7 @@ ghost use Rattle.pdb_module_data.specs.RowPieces.{AreSearchable, StandForRows};
 
 use crate::memory::{PIECES_OF_SPAN, memory_of};
 use pdb_addresses::PdbInternalSectionOffset;
-use pdb_container::{FallibleIterator, Result};
-use pdb_indices::FileIndex;
+use pdb_container::{FallibleIterator, FileIndex, Result};
 use pdb_lines::LineProgram;
 use pdb_pieces::{Begins, Mark, Pieces, Span, count_begun, to_next};
 use std::alloc::{AllocError, Global};

@@ -1,17 +1,14 @@
 //! The inline sites of a procedure, and a search of the deepest one over a place.
 
-ghost use Rattle.std.specs.Prelude.{◌≡◌, List, IfOk, length};
-ghost use Rattle.pdb_symbol_records.specs.Forms.{InlineSiteForm};
-ghost use Rattle.pdb_subsections.specs.declared.line_info.LineInfo.{LineInfo};
+ghost use Rattle.std.specs.Prelude.{◌≡◌, IfOk, length};
 ghost use Rattle.pdb_addresses.specs.SectionRun.{up_to_next};
-ghost use Rattle.pdb_module_data.specs.Forest.{sites_of};
-ghost use Rattle.pdb_module_data.specs.InlinedCalls.{given_by, call_rows};
 ghost use Rattle.pdb_module_data.specs.InlinedCalls.{calls_over as calls_over_place, deepest};
+ghost use Rattle.pdb_module_data.specs.InlinedCalls.{stored_rows};
 ghost use Rattle.pdb_module_data.specs.InlinePieces.{rows_of_sites, starts_of_sites};
 ghost use Rattle.pdb_module_data.specs.InlinePieces.{cuts_of};
-ghost use Rattle.pdb_module_data.specs.InlinePieces.{site_spans as spans_of_sites};
 ghost use Rattle.pdb_module_data.specs.InlinePieces.{AreCut, AreShortSites, StandForDeepest};
-ghost use Rattle.pdb_module_data.specs.InlinePieces.{StandForSites};
+ghost use Rattle.pdb_module_data.specs.InlinePieces.{AreSpansOf, IfStored, StandForSites};
+ghost use Rattle.pdb_module_data.specs.Procedures.{sites_of_procedure};
 ghost use Rattle.pdb_module_data.specs.SitesFaults.{Reads};
 
 use crate::brief_sites::{BriefSite, briefs_of, short_number};
@@ -24,7 +21,7 @@ use crate::memory::{PIECES_OF_SPAN, memory_of};
 use crate::procedures::Procedure;
 use crate::site_rows::{SiteRows, rows_of_site, site_pieces};
 use pdb_addresses::PdbInternalSectionOffset;
-use pdb_indices::SymbolIndex;
+use pdb_container::SymbolIndex;
 use pdb_pieces::{Pieces, Span};
 use pdb_symbol_records::SymbolIter;
 use std::alloc::{AllocError, Global};
@@ -93,10 +90,9 @@ fn rows_and_starts<'a>(
     start: PdbInternalSectionOffset,
 ) -> Result<RowsAndStarts, AllocError>
     ensures rows { IfOk result
-        (λ r. r.rows.items ≡ rows_of_sites (call_rows (given_by inlinees.now) start) sites.now) }
+        (λ r. r.rows.items ≡ rows_of_sites (stored_rows inlinees.now start) sites.now) }
     ensures starts { IfOk result
-        (λ r. r.starts.items
-        ≡ starts_of_sites (call_rows (given_by inlinees.now) start) 0 sites.now) }
+        (λ r. r.starts.items ≡ starts_of_sites (stored_rows inlinees.now start) 0 sites.now) }
 {
     let usual = sites.len().saturating_mul(ROWS_OF_SITE);
     let mut rows = Vec::with_capacity(alloc, usual)?;
@@ -120,12 +116,9 @@ fn spans_of(
     starts: &[u32],
 ) -> Result<Vec<Span>, AllocError>
     requires { AreCut (length sites.now) starts.now (length rows.now) }
-    ensures spans { IfOk result (λ v. (lines : InlineSiteForm → List LineInfo)
-        → rows.now ≡ rows_of_sites lines sites.now → starts.now ≡ starts_of_sites lines 0 sites.now
-        → v.items ≡ spans_of_sites lines 0 sites.now) }
-    ensures short { IfOk result (λ v. (lines : InlineSiteForm → List LineInfo)
-        → rows.now ≡ rows_of_sites lines sites.now → starts.now ≡ starts_of_sites lines 0 sites.now
-        → AreShortSites lines sites.now) }
+    ensures spans { IfOk result (λ v. IfStored rows.now starts.now sites.now
+        (AreSpansOf v.items)) }
+    ensures short { IfOk result (λ _. IfStored rows.now starts.now sites.now AreShortSites) }
 {
     let mut spans = Vec::with_capacity(alloc, rows.len())?;
     for (number, site) in sites.iter().enumerate() {
@@ -144,9 +137,8 @@ fn pieces_unless_few(
     starts: &[u32],
 ) -> Result<Option<Pieces>, AllocError>
     requires { AreCut (length sites.now) starts.now (length rows.now) }
-    ensures { IfOk result (λ pieces. (lines : InlineSiteForm → List LineInfo)
-        → rows.now ≡ rows_of_sites lines sites.now → starts.now ≡ starts_of_sites lines 0 sites.now
-        → StandForDeepest lines sites.now pieces) }
+    ensures { IfOk result (λ v. IfStored rows.now starts.now sites.now
+        (λ lines all. StandForDeepest lines all v)) }
 {
     if sites.len().saturating_add(rows.len()) <= GONE_OVER {
         return Ok(None);
@@ -170,10 +162,9 @@ impl<'t> InlineRanges<'t> {
         inlinees: &Inlinees<'t>,
     ) -> Result<InlineRanges<'t>, SitesError>
         ensures sites { Reads (λ r. r.sites) result
-            (sites_of symbols.entry.bytes procedure.now.symbol_index.0
-            procedure.now.end_symbol_index.0) }
+            (sites_of_procedure symbols.entry.bytes procedure.now) }
         ensures stand { IfOk result
-            (λ r. StandForSites (call_rows (given_by inlinees.now) procedure.now.offset) r) }
+            (λ r. StandForSites (stored_rows inlinees.now procedure.now.offset) r) }
     {
         let sites = InlineSites::read_by(alloc, &mut symbols, procedure)?;
         let read = rows_and_starts(alloc, sites.as_slice(), inlinees, procedure.offset)?;
@@ -204,9 +195,8 @@ impl<'t> InlineRanges<'t> {
         start: PdbInternalSectionOffset,
         place: PdbInternalSectionOffset,
     ) -> Option<usize>
-        requires { StandForSites (call_rows (given_by inlinees.now) start) self.now }
-        ensures { result ≡ deepest (call_rows (given_by inlinees.now) start) (self.now).sites
-            place }
+        requires { StandForSites (stored_rows inlinees.now start) self.now }
+        ensures { result ≡ deepest (stored_rows inlinees.now start) (self.now).sites place }
     {
         match &self.pieces {
             None => deepest_of(self.sites.as_slice(), &self.rows, place),
@@ -231,10 +221,9 @@ impl<'t> InlineRanges<'t> {
         start: PdbInternalSectionOffset,
         place: PdbInternalSectionOffset,
     ) -> Result<Vec<InlinedCall>, AllocError>
-        requires { StandForSites (call_rows (given_by inlinees.now) start) self.now }
-        ensures { IfOk result
-            (λ v. v.items ≡ calls_over_place (call_rows (given_by inlinees.now) start)
-            (self.now).sites place) }
+        requires { StandForSites (stored_rows inlinees.now start) self.now }
+        ensures { IfOk result (λ v. v.items
+            ≡ calls_over_place (stored_rows inlinees.now start) self.now.sites place) }
     {
         match self.deepest_over(inlinees, start, place) {
             None => Ok(Vec::new(alloc)),

@@ -2,14 +2,14 @@
 
 ghost use Rattle.std.specs.Prelude.{◌≡◌, ◌∷◌, ◌<◌, ◌≤◌, ◌^◌, length, IfOk, OnOk};
 ghost use Rattle.pdb_module_data.specs.Elements.{element_seen, nested_past, with_site};
-ghost use Rattle.pdb_module_data.specs.Forest.{sites_of, element_of, sites_from};
+ghost use Rattle.pdb_module_data.specs.Forest.{element_of, sites_from};
 ghost use Rattle.pdb_module_data.specs.InlinedCalls.{IsNested};
+ghost use Rattle.pdb_module_data.specs.Procedures.{sites_of_procedure};
 ghost use Rattle.pdb_module_data.specs.SitesFaults.{Reads};
 ghost use Rattle.pdb_symbol_records.specs.Forms.{inline_site_form};
 
 use crate::procedures::Procedure;
-use pdb_container::{Error, FallibleIterator};
-use pdb_indices::SymbolIndex;
+use pdb_container::{Error, FallibleIterator, SymbolIndex};
 use pdb_symbol_records::kinds::{is_inline_site, is_procedure};
 use pdb_symbol_records::{InlineSiteSymbol, Symbol, SymbolData, SymbolIter};
 use std::alloc::{AllocError, AllocFailed, Global};
@@ -229,9 +229,7 @@ impl<'t> InlineSites<'t> {
         mut symbols: SymbolIter<'t>,
         procedure: &Procedure<'_>,
     ) -> Result<InlineSites<'t>, SitesError>
-        ensures { Reads (λ s. s) result
-            (sites_of symbols.entry.bytes procedure.now.symbol_index.0
-            procedure.now.end_symbol_index.0) }
+        ensures { Reads (λ s. s) result (sites_of_procedure symbols.entry.bytes procedure.now) }
     {
         InlineSites::read_by(alloc, &mut symbols, procedure)
     }
@@ -243,8 +241,7 @@ impl<'t> InlineSites<'t> {
         procedure: &Procedure<'_>,
     ) -> Result<InlineSites<'t>, SitesError>
         ensures sites { Reads (λ s. s) result
-            (sites_of symbols.old.bytes procedure.now.symbol_index.0
-            procedure.now.end_symbol_index.0) }
+            (sites_of_procedure symbols.old.bytes procedure.now) }
         ensures bytes { OnOk result (symbols.new.bytes ≡ symbols.old.bytes) }
     {
         symbols.skip_to(procedure.symbol_index)?;

@@ -1,20 +1,15 @@
 //! Inlined calls over a place.
 
-ghost use Rattle.std.specs.Prelude.{◌≡◌, ◌<◌, List, IfOk, Some, length, map, slice_get};
-ghost use Rattle.std.specs.List.{flat_map};
-ghost use Rattle.pdb_symbol_records.specs.Forms.{InlineSiteForm};
-ghost use Rattle.pdb_subsections.specs.declared.line_info.LineInfo.{LineInfo};
-ghost use Rattle.pdb_module_data.specs.BriefSites.{brief_of, AreOfNested};
-ghost use Rattle.pdb_module_data.specs.Forest.{Site};
-ghost use Rattle.pdb_module_data.specs.InlinedCalls.{chain as chain_of, calls_of, IsNested};
-ghost use Rattle.pdb_module_data.specs.InlinePieces.{rows_of_sites, starts_of_sites};
+ghost use Rattle.std.specs.Prelude.{◌≡◌, ◌<◌, IfOk, Some, length, slice_get};
+ghost use Rattle.pdb_module_data.specs.BriefSites.{AreOfNested, IfKept};
+ghost use Rattle.pdb_module_data.specs.InlinedCalls.{AreCallsFrom};
 ghost use Rattle.pdb_module_data.specs.InlinePieces.{AreAllFound, AreCut};
 
 use crate::brief_sites::BriefSite;
 use crate::call_rows::call_over;
 use crate::site_rows::SiteRows;
 use pdb_addresses::PdbInternalSectionOffset;
-use pdb_indices::{FileIndex, IdIndex};
+use pdb_container::{FileIndex, IdIndex};
 use std::alloc::{AllocError, Global};
 
 /// The code of a row of an inlined call.
@@ -73,12 +68,8 @@ pub fn calls_from(
         (length of_sites.now.rows.items) }
     requires found { AreAllFound (length sites.now) of_sites.now.rows.items
         of_sites.now.starts.items of_sites.now.pieces }
-    ensures { IfOk result (λ v. (whole : List Site) (lines : InlineSiteForm → List LineInfo)
-        → IsNested whole → sites.now ≡ map brief_of whole
-        → of_sites.now.rows.items ≡ rows_of_sites lines whole
-        → of_sites.now.starts.items ≡ starts_of_sites lines 0 whole
-        → v.items ≡ flat_map (λ k. calls_of lines place (slice_get whole k))
-        (chain_of whole number)) }
+    ensures { IfOk result
+        (λ v. IfKept sites.now of_sites.now (AreCallsFrom v.items place number)) }
 {
     let deepest = site_numbered(sites, number);
     let mut calls = Vec::with_capacity(alloc, deepest.depth as usize)?;

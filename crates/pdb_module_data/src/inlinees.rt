@@ -2,13 +2,12 @@
 
 ghost use Rattle.std.specs.Prelude.{◌≡◌, option_map};
 ghost use Rattle.pdb_container.specs.Fault.{Gives};
-ghost use Rattle.pdb_inlinees.specs.Inlinee.{inlined_function};
+ghost use Rattle.pdb_lines.specs.Inlinee.{inlined_function};
 ghost use Rattle.pdb_module_data.specs.InlinedCalls.{inlinees_by_id, given_by};
 
 use crate::memory::memory_of;
-use pdb_container::{FallibleIterator, Result};
-use pdb_indices::IdIndex;
-use pdb_inlinees::{Inlinee, InlineeIterator};
+use pdb_container::{FallibleIterator, IdIndex, Result};
+use pdb_lines::{Inlinee, InlineeIterator};
 use std::alloc::Global;
 use std::collections::BTreeMap;
 

@@ -108,7 +108,7 @@ impl<'t> Procedures<'t> {
     /// The number of the procedure over a place, counted from 0 in their order: of those that
     /// contain it the one with the greatest start. It takes as many steps as the number of pieces
     /// has binary digits.
-    pub fn number_over(&self, place: PdbInternalSectionOffset) -> Option<usize>
+    pub fn number_covering(&self, place: PdbInternalSectionOffset) -> Option<usize>
         ensures { option_and_then (λ k. slice_get self.now k) result ≡ over_of self.now place }
     {
         self.pieces.value_at(place)

@@ -1,21 +1,14 @@
 //! The procedures of a module.
 
 ghost use Rattle.std.specs.Prelude.{◌≡◌, OnOk, Some, option_map};
-ghost use Rattle.std.specs.BTreeSet.{contains};
-ghost use Rattle.pdb_addresses.specs.declared.internal_section_offset.PdbInternalSectionOffset.{
-  PdbInternalSectionOffset,
-};
 ghost use Rattle.pdb_container.specs.Fault.{Gives};
-ghost use Rattle.pdb_module_data.specs.Procedures.{place_cmp, has_start, is_procedure_kind};
-ghost use Rattle.pdb_module_data.specs.Procedures.{separated_from, said_procedure};
+ghost use Rattle.pdb_module_data.specs.Procedures.{is_procedure_kind, separated_from, said_by};
 ghost use Rattle.pdb_module_data.specs.Procedures.{kept_of as kept_of_symbol, onto_new};
-ghost use Rattle.pdb_module_data.specs.Procedures.{procedures_of};
+ghost use Rattle.pdb_module_data.specs.Procedures.{procedures_of, AreStartsOf};
 ghost use Rattle.pdb_symbol_records.specs.Iteration.{symbols_left};
-ghost use Rattle.pdb_symbol_records.specs.Records.{symbol_form_of};
 
 use pdb_addresses::PdbInternalSectionOffset;
-use pdb_container::{FallibleIterator, RawString, Result};
-use pdb_indices::{SymbolIndex, TypeIndex};
+use pdb_container::{FallibleIterator, RawString, Result, SymbolIndex, TypeIndex};
 use pdb_symbol_records::kinds::{is_procedure, is_separated_code, is_thunk};
 use pdb_symbol_records::{SeparatedCodeSymbol, Symbol, SymbolData, SymbolIter};
 use std::alloc::{AllocError, Global};
@@ -90,8 +83,7 @@ fn may_be_procedure(kind: u16) -> bool
 /// kind is parsed.
 #[tactic(auto, using(crate::proofs::ProcedureSteps::no_procedure))]
 fn parse_procedure<'t>(last: Option<&Procedure<'t>>, symbol: &Symbol<'t>) -> Option<Procedure<'t>>
-    ensures { result ≡ said_procedure (option_map (λ q. q.now) last.entry) symbol.now.index
-        (symbol_form_of symbol.now) }
+    ensures { result ≡ said_by (option_map (λ q. q.now) last.entry) symbol.now }
 {
     if !may_be_procedure(symbol.raw_kind()) {
         return None;
@@ -119,7 +111,10 @@ fn parse_procedure<'t>(last: Option<&Procedure<'t>>, symbol: &Symbol<'t>) -> Opt
 }
 
 /// The procedure that is taken from a symbol, after the one that was taken last: one that has code.
-fn kept_procedure<'t>(last: Option<&Procedure<'t>>, symbol: &Symbol<'t>) -> Option<Procedure<'t>>
+fn procedure_with_code<'t>(
+    last: Option<&Procedure<'t>>,
+    symbol: &Symbol<'t>,
+) -> Option<Procedure<'t>>
     ensures { result ≡ kept_of_symbol (option_map (λ q. q.now) last.entry) symbol.now }
 {
     let procedure = parse_procedure(last, symbol)?;
@@ -130,7 +125,7 @@ fn kept_procedure<'t>(last: Option<&Procedure<'t>>, symbol: &Symbol<'t>) -> Opti
 }
 
 /// A copy of a procedure.
-fn same<'t>(procedure: &Procedure<'t>) -> Procedure<'t>
+fn copied<'t>(procedure: &Procedure<'t>) -> Procedure<'t>
     ensures { result ≡ procedure.now }
 {
     Procedure {
@@ -150,13 +145,10 @@ fn push_new<'t>(
     procedures: &mut Vec<Procedure<'t>>,
     procedure: Procedure<'t>,
 ) -> std::result::Result<(), AllocError>
-    requires { (p : PdbInternalSectionOffset)
-        → contains place_cmp starts.old (p.section, p.offset) ≡ has_start procedures.old.items p }
+    requires { AreStartsOf starts.old procedures.old.items }
     ensures ok { OnOk result
         (procedures.new.items ≡ onto_new procedures.old.items procedure.entry) }
-    ensures starts { OnOk result
-        ((p : PdbInternalSectionOffset)
-        → contains place_cmp starts.new (p.section, p.offset) ≡ has_start procedures.new.items p) }
+    ensures starts { OnOk result (AreStartsOf starts.new procedures.new.items) }
 {
     if starts.insert((procedure.offset.section, procedure.offset.offset))? {
         procedures.push(procedure)?;
@@ -182,8 +174,8 @@ pub fn read_procedures<'t>(alloc: Global, mut symbols: SymbolIter<'t>) -> Result
         if !may_be_procedure(symbol.raw_kind()) {
             continue;
         }
-        if let Some(procedure) = kept_procedure(last.as_ref(), &symbol) {
-            last = Some(same(&procedure));
+        if let Some(procedure) = procedure_with_code(last.as_ref(), &symbol) {
+            last = Some(copied(&procedure));
             push_new(&mut starts, &mut procedures, procedure)?;
         }
     }

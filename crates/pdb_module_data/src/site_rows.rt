@@ -5,7 +5,7 @@ ghost use Rattle.std.specs.Prelude.{◌≡◌, ◌+◌, ◌<◌, ◌≤◌, IfOk
 ghost use Rattle.std.specs.Prelude.{length, option_map, slice_index};
 ghost use Rattle.std.specs.BTreeMap.{get};
 ghost use Rattle.std.specs.Ordering.{nat_cmp};
-ghost use Rattle.pdb_module_data.specs.InlinePieces.{rows_between, AddsFound, AreAllFound, AreCut};
+ghost use Rattle.pdb_module_data.specs.InlinePieces.{rows_at, AddsFound, AreAllFound, AreCut};
 
 use crate::call_rows::{CallRow, pieces_unless_apart};
 use pdb_pieces::Pieces;
@@ -30,9 +30,7 @@ impl SiteRows {
             ≤ slice_index self.now.starts.items (number + 1) }
         requires bound { slice_index self.now.starts.items (number + 1)
             ≤ length self.now.rows.items }
-        ensures { result.now ≡ rows_between self.now.rows.items
-            (slice_index self.now.starts.items number)
-            (slice_index self.now.starts.items (number + 1)) }
+        ensures { result.now ≡ rows_at self.now.rows.items self.now.starts.items number }
     {
         rows_of_site(self.rows.as_slice(), self.starts.as_slice(), number)
     }
@@ -50,9 +48,7 @@ pub fn rows_of_site<'r>(rows: &'r [CallRow], starts: &[u32], number: usize) -> &
     requires there { number + 1 < length starts.now }
     requires ascend { slice_index starts.now number ≤ slice_index starts.now (number + 1) }
     requires bound { slice_index starts.now (number + 1) ≤ length rows.now }
-    ensures { result.now
-        ≡ rows_between rows.now (slice_index starts.now number)
-        (slice_index starts.now (number + 1)) }
+    ensures { result.now ≡ rows_at rows.now starts.now number }
 {
     let start = starts[number] as usize;
     let end = starts[number + 1] as usize;

@@ -1,4 +1,5 @@
 pub mod Answers
+pub mod Counted
 pub mod Counts
 pub mod Databases
 pub mod FileAnswers

@@ -21,9 +21,13 @@ size_text e =
     codes "0x" ++ eight_digits (e.0).start_rva ++ codes " " ++ decimal e.1 ++ codes " "
     ++ text_or (e.0).name ++ 10 ∷ []
 
+-- a line for each function of a table
+abbrev pub size_lines : List (Function × ℕ) → List ℕ
+size_lines table = flat_map size_text table
+
 -- the report: a line for each function, and then the count of addresses that have none
 abbrev pub sizes_text : List (Function × ℕ) → ℕ → List ℕ
-sizes_text table none = flat_map size_text table ++ codes "none " ++ decimal none ++ 10 ∷ []
+sizes_text table none = size_lines table ++ codes "none " ++ decimal none ++ 10 ∷ []
 
 -- the line of a file and its count; what is no file has none
 abbrev pub file_text : FileAnswer × ℕ → List ℕ
@@ -32,11 +36,15 @@ file_text (Unreadable, n) = []
 file_text (NoFile, n) = []
 file_text (File name, n) = decimal n ++ codes " " ++ name ++ 10 ∷ []
 
+-- a line for each file of a table
+abbrev pub file_lines : List (FileAnswer × ℕ) → List ℕ
+file_lines table = flat_map file_text table
+
 -- the report by file: a line for each file, and then the counts of addresses without a known file,
 -- of those that have nothing, and of those that can't be read
 abbrev pub by_file_text : List (FileAnswer × ℕ) → ℕ → List ℕ
 by_file_text table none =
-    flat_map file_text table
+    file_lines table
     ++ codes "no file " ++ decimal (count_in file_cmp table NoFile) ++ 10 ∷ []
     ++ codes "none " ++ decimal none ++ 10 ∷ []
     ++ codes "unreadable " ++ decimal (count_in file_cmp table Unreadable) ++ 10 ∷ []

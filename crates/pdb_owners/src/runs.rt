@@ -1,7 +1,7 @@
 //! What answers places run by run.
 
-ghost use Rattle.std.specs.Prelude.{◌≡◌, ℕ, ◌+◌, ◌-◌, ◌^◌, ◌≤◌, min, IfOk, OnOk, option_and_then};
-ghost use Rattle.pdb_owners.specs.Databases.{IsOneRun, Keyed, place_of};
+ghost use Rattle.std.specs.Prelude.{◌≡◌, ℕ, ◌+◌, ◌-◌, ◌^◌, ◌≤◌, min, IfOk, OnOk};
+ghost use Rattle.pdb_owners.specs.Databases.{IsKeyAt, IsOneRun, Keyed, place_of};
 
 use crate::countable::Countable;
 use pdb_addresses::PdbInternalSectionOffset;
@@ -37,8 +37,7 @@ pub trait Runs {
     ) -> Result<(Option<Self::Key>, u32), AllocError>
         requires some { 1 ≤ limit }
         requires within { place.offset + limit ≤ 2 ^ 32 }
-        ensures answer { IfOk result (λ r. option_and_then (keyed self.old).answer_of r.0
-            ≡ ((keyed self.old).places).answer (place_of place)) }
+        ensures answer { IfOk result (λ r. IsKeyAt (keyed self.old) place r.0) }
         ensures count { IfOk result (λ r. IsOneRun (keyed self.old).places
             (place_of place) limit r.1) }
         ensures same { keyed self.new ≡ keyed self.old }

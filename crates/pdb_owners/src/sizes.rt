@@ -1,13 +1,13 @@
 //! Counts the answers of a range of addresses, run by run.
 
-ghost use Rattle.std.specs.Prelude.{◌≡◌, ℕ, ◌+◌, ◌-◌, ◌^◌, ◌<◌, ◌≤◌, true, Some, IfOk, OnOk};
+ghost use Rattle.std.specs.Prelude.{◌≡◌, ◌+◌, ◌-◌, ◌^◌, ◌<◌, ◌≤◌, true, IfOk, OnOk};
 ghost use Rattle.std.specs.Prelude.{length};
 ghost use Rattle.pdb_addresses.specs.Addresses.{IsOrdered};
-ghost use Rattle.pdb_owners.specs.Counts.{count, count_of_none, pieces, answer_at, answer_along};
-ghost use Rattle.pdb_owners.specs.Counts.{begins, begins_along, is_section_bound};
-ghost use Rattle.pdb_owners.specs.Databases.{place_of};
-ghost use Rattle.pdb_owners.specs.Table.{IsTable, IsCounted, IsResolved, IsWithin, count_in};
-ghost use Rattle.pdb_owners.specs.Table.{sum_of};
+ghost use Rattle.pdb_owners.specs.Counted.{AreCounts, CountsAlong, CountsFrom, CountsRange};
+ghost use Rattle.pdb_owners.specs.Counted.{RisesAlong, RisesFrom, RisesOver};
+ghost use Rattle.pdb_owners.specs.Counted.{asked_pieces as asked};
+ghost use Rattle.pdb_owners.specs.Counts.{count_of_none, is_section_bound};
+ghost use Rattle.pdb_owners.specs.Table.{IsTable, IsResolved, sum_of};
 
 use crate::countable::Countable;
 use crate::runs::Runs;
@@ -40,17 +40,16 @@ pub fn count_runs<R: Runs>(
 ) -> Result<Sizes<R::Found>, AllocError>
     requires ordered { IsOrdered map.now }
     requires order { start ≤ end }
-    ensures each { IfOk result (λ sizes. (f : R.Found)
-        → count_in R.Found.cmp sizes.counts f
-        ≡ count R.Found.cmp map.now (R.keyed runs.old).places start end f) }
+    ensures each { IfOk result (λ sizes. AreCounts R.Found.cmp sizes.counts map.now
+        (R.keyed runs.old) start end) }
     ensures table { IfOk result (λ sizes. IsTable R.Found.cmp sizes.counts) }
     ensures none { IfOk result (λ sizes. sizes.none
         ≡ count_of_none map.now (R.keyed runs.old).places start end) }
     ensures all { IfOk result (λ sizes. sum_of sizes.counts + sizes.none ≡ end - start) }
     ensures lookups { OnOk result (R.lookups runs.new
-        ≤ R.lookups runs.old + pieces map.now (R.keyed runs.old).places start end) }
+        ≤ R.lookups runs.old + asked map.now (R.keyed runs.old) start end) }
     ensures answered { OnOk result (R.answered runs.new
-        ≤ R.answered runs.old + pieces map.now (R.keyed runs.old).places start end) }
+        ≤ R.answered runs.old + asked map.now (R.keyed runs.old) start end) }
     ensures same { R.keyed runs.new ≡ R.keyed runs.old }
 {
     ranges_laid_end_to_end();
@@ -95,14 +94,10 @@ fn count_range<R: Runs>(
     range: Range<PdbInternalRva>,
 ) -> Result<(), AllocError>
     requires room { sum_of keys.old + (range.end.0 - range.start.0) < 2 ^ 64 }
-    ensures counted { OnOk result (IsCounted (R.keyed runs.old).answer_of
-        (answer_at map.now.internal (R.keyed runs.old).places) range.start.0
-        (range.end.0 - range.start.0) keys.old keys.new) }
-    ensures lookups { OnOk result (IsWithin (begins map.now.internal
-        (R.keyed runs.old).places range.start.0) range.start.0 (range.end.0 - range.start.0)
+    ensures counted { OnOk result (CountsRange map.now (R.keyed runs.old) range keys.old keys.new) }
+    ensures lookups { OnOk result (RisesOver map.now (R.keyed runs.old) range
         (R.lookups runs.old) (R.lookups runs.new)) }
-    ensures keys { OnOk result (IsWithin (begins map.now.internal
-        (R.keyed runs.old).places range.start.0) range.start.0 (range.end.0 - range.start.0)
+    ensures keys { OnOk result (RisesOver map.now (R.keyed runs.old) range
         (length keys.old) (length keys.new)) }
     ensures answered { OnOk result (R.answered runs.new ≡ R.answered runs.old) }
     ensures same { R.keyed runs.new ≡ R.keyed runs.old }
@@ -137,13 +132,12 @@ fn count_section<R: Runs>(
     requires room { sum_of keys.old + limit < 2 ^ 64 }
     ensures some { IfOk result (λ n. 1 ≤ n) }
     ensures within { IfOk result (λ n. n ≤ limit) }
-    ensures counted { IfOk result (λ n. IsCounted (R.keyed runs.old).answer_of
-        (answer_at map.now.internal (R.keyed runs.old).places) address.0 n keys.old keys.new) }
-    ensures lookups { IfOk result (λ n. IsWithin (begins map.now.internal
-        (R.keyed runs.old).places address.0) address.0 n (R.lookups runs.old)
-        (R.lookups runs.new)) }
-    ensures keys { IfOk result (λ n. IsWithin (begins map.now.internal
-        (R.keyed runs.old).places address.0) address.0 n (length keys.old) (length keys.new)) }
+    ensures counted { IfOk result (CountsFrom map.now (R.keyed runs.old) address keys.old
+        keys.new) }
+    ensures lookups { IfOk result (RisesFrom map.now (R.keyed runs.old) address
+        (R.lookups runs.old) (R.lookups runs.new)) }
+    ensures keys { IfOk result (RisesFrom map.now (R.keyed runs.old) address (length keys.old)
+        (length keys.new)) }
     ensures answered { OnOk result (R.answered runs.new ≡ R.answered runs.old) }
     ensures ends { IfOk result (λ n. n < limit
         → is_section_bound map.now.internal (address.0 + n) ≡ true) }
@@ -169,12 +163,11 @@ fn count_places<R: Runs>(
 ) -> Result<(), AllocError>
     requires within { place.offset + count ≤ 2 ^ 32 }
     requires room { sum_of keys.old + count < 2 ^ 64 }
-    ensures counted { OnOk result (IsCounted (R.keyed runs.old).answer_of (answer_along
-        (R.keyed runs.old).places (Some (place_of place))) 0 count keys.old keys.new) }
-    ensures lookups { OnOk result (IsWithin (begins_along (R.keyed runs.old).places (Some
-        (place_of place))) 0 count (R.lookups runs.old) (R.lookups runs.new)) }
-    ensures keys { OnOk result (IsWithin (begins_along (R.keyed runs.old).places (Some
-        (place_of place))) 0 count (length keys.old) (length keys.new)) }
+    ensures counted { OnOk result (CountsAlong (R.keyed runs.old) place keys.old keys.new count) }
+    ensures lookups { OnOk result (RisesAlong (R.keyed runs.old) place (R.lookups runs.old)
+        (R.lookups runs.new) count) }
+    ensures keys { OnOk result (RisesAlong (R.keyed runs.old) place (length keys.old)
+        (length keys.new) count) }
     ensures answered { OnOk result (R.answered runs.new ≡ R.answered runs.old) }
     ensures same { R.keyed runs.new ≡ R.keyed runs.old }
 {

@@ -8,7 +8,7 @@ use std::alloc::{AllocError, Global};
 use std::collections::BTreeMap;
 use std::marker::Model;
 
-/// Answers in their order, each with how many addresses it has.
+/// Answers in their order, each with its count: how many addresses it has, or how many bytes.
 #[derive(Drop)]
 pub struct Counts<A: Countable> {
     by_answer: BTreeMap<A, u64>,
@@ -29,7 +29,7 @@ impl<A: Countable> Model for Counts<A> {
 
 impl<A: Countable> Counts<A> {
     /// Makes a table without answers.
-    pub(crate) fn new(alloc: Global) -> Counts<A>
+    pub fn new(alloc: Global) -> Counts<A>
         ensures { result ≡ [] }
     {
         Counts {
@@ -38,7 +38,7 @@ impl<A: Countable> Counts<A> {
         }
     }
 
-    /// Returns how many addresses all of them have.
+    /// Returns the sum of all counts.
     pub fn total(&self) -> u64
         ensures total { result ≡ sum_of self.now }
         ensures table { IsTable A.cmp self.now }
@@ -53,8 +53,8 @@ impl<A: Countable> Counts<A> {
         self.by_answer.get(answer).copied().unwrap_or(0)
     }
 
-    /// Returns them in their order, each with its count.
-    pub(crate) fn by_answer(&self) -> &BTreeMap<A, u64>
+    /// Returns them in their order, each with its count, which is 1 or more.
+    pub fn by_answer(&self) -> &BTreeMap<A, u64>
         ensures entries { result.now.entries ≡ self.now }
         ensures table { IsTable A.cmp self.now }
     {
@@ -62,7 +62,10 @@ impl<A: Countable> Counts<A> {
     }
 
     /// Adds to the count of an answer, if there is one.
-    pub(crate) fn add_answer(&mut self, answer: Option<A>, count: u64) -> Result<(), AllocError>
+    ///
+    /// # Errors
+    /// `AllocError` when memory runs out.
+    pub fn add_answer(&mut self, answer: Option<A>, count: u64) -> Result<(), AllocError>
         requires some { 1 ≤ count }
         requires room { sum_of self.old + count < 2 ^ 64 }
         ensures { OnOk result (IsAdded self.old answer count self.new) }
@@ -73,7 +76,11 @@ impl<A: Countable> Counts<A> {
         }
     }
 
-    fn add(&mut self, answer: A, count: u64) -> Result<(), AllocError>
+    /// Adds to the count of an answer.
+    ///
+    /// # Errors
+    /// `AllocError` when memory runs out.
+    pub fn add(&mut self, answer: A, count: u64) -> Result<(), AllocError>
         requires some { 1 ≤ count }
         requires room { sum_of self.old + count < 2 ^ 64 }
         ensures { OnOk result (IsAdded self.old (Some answer) count self.new) }

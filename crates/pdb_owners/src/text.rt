@@ -1,11 +1,11 @@
 //! The texts of reports of sizes, by function and by file.
 
 ghost use Rattle.std.specs.Prelude.{◌≡◌, ◌++◌, IfOk, OnOk, option_map};
-ghost use Rattle.std.specs.List.{flat_map};
 ghost use Rattle.std.specs.String.{string_bytes};
 ghost use Rattle.pdb_owners.specs.FileAnswers.{file_seen, NoFile, Unreadable};
-ghost use Rattle.pdb_owners.specs.Texts.{text_or, size_text, sizes_text as sizes_text_of};
-ghost use Rattle.pdb_owners.specs.Texts.{file_text, by_file_text as by_file_text_of};
+ghost use Rattle.pdb_owners.specs.Texts.{text_or, size_text, size_lines, file_text, file_lines};
+ghost use Rattle.pdb_owners.specs.Texts.{sizes_text as sizes_text_of};
+ghost use Rattle.pdb_owners.specs.Texts.{by_file_text as by_file_text_of};
 
 use crate::file_answer::{CountedFile, FileAnswer};
 use crate::function::Function;
@@ -32,7 +32,7 @@ pub fn sizes_text(alloc: Global, sizes: &Sizes<Function>) -> Result<String, Allo
 /// Appends the lines of functions and their numbers.
 fn append_lines(text: &mut String, numbers: &BTreeMap<Function, u64>) -> Result<(), AllocError>
     ensures { OnOk result (string_bytes text.new
-        ≡ string_bytes text.old ++ flat_map size_text numbers.now.entries) }
+        ≡ string_bytes text.old ++ size_lines numbers.now.entries) }
 {
     for (function, count) in numbers {
         append_line(text, function, *count)?;
@@ -87,7 +87,7 @@ pub fn by_file_text(alloc: Global, sizes: &Sizes<CountedFile>) -> Result<String,
 /// Appends the lines of files and their numbers.
 fn append_files(text: &mut String, numbers: &BTreeMap<CountedFile, u64>) -> Result<(), AllocError>
     ensures { OnOk result (string_bytes text.new
-        ≡ string_bytes text.old ++ flat_map file_text numbers.now.entries) }
+        ≡ string_bytes text.old ++ file_lines numbers.now.entries) }
 {
     for (file, count) in numbers {
         append_file(text, file, *count)?;

@@ -13,9 +13,9 @@ use Rattle.std.proofs.lemmas.Map.Iter.{rest_so_far}
 use Rattle.pdb_subsections.specs.declared.exports.CrossModuleExport.{CrossModuleExport}
 use Rattle.pdb_subsections.specs.declared.exports.CrossModuleExport.TheVariants as forms
 use Rattle.pdb_subsections.specs.Exports.{Entry, first_export, export_form}
-use Rattle.pdb_indices.specs.IdIndex.{id_index}
-use Rattle.pdb_indices.specs.Index.{is_cross_module}
-use Rattle.pdb_indices.specs.TypeIndex.{type_index}
+use Rattle.pdb_container.specs.IdIndex.{id_index}
+use Rattle.pdb_container.specs.Index.{is_cross_module}
+use Rattle.pdb_container.specs.TypeIndex.{type_index}
 use Rattle.pdb_resolving.specs.KeptTables.{AreFirst, entry_of}
 
 -- ---- the exports as they are gone over

@@ -11,7 +11,7 @@ use Rattle.pdb_container.specs.Fault as container
 use Rattle.pdb_container.specs.Fault.{NotACrossModuleRef, CrossModuleRefNotFound, ◌>>=◌, guard}
 use Rattle.pdb_container.specs.StringTable.{text_in}
 use Rattle.pdb_subsections.specs.Imports.{Import, Imported, imported, imported_from, found_import, module_of, entry_of}
-use Rattle.pdb_indices.specs.Index.{is_cross_module}
+use Rattle.pdb_container.specs.Index.{is_cross_module}
 use Rattle.pdb_resolving.specs.Cause.{of_no_table}
 use Rattle.pdb_resolving.specs.Fault.{Fault, CantResolveCrossModuleRefWithoutStringTable, ModuleNameNotFound, lifted}
 use Rattle.pdb_resolving.specs.Reaches.{Reaches}

@@ -1,6 +1,7 @@
 -- What is cached of the modules among which indices are resolved: the tables that were read, and
 -- the indices of modules by their names.
-use Rattle.std.specs.Prelude.{◌≡◌, ℕ, ◌≤◌, List, Some, Result, Ok, Err, String, string_bytes}
+use Rattle.std.specs.Prelude.{◌≡◌, ℕ, ◌≤◌, List, Some, Result, Ok, Err, IfErr, String}
+use Rattle.std.specs.Prelude.{string_bytes}
 use Rattle.std.specs.declared.alloc.Global.{Global}
 use Rattle.std.specs.BTreeMap.{BTreeMap, get, get_by_text}
 use Rattle.std.specs.Option.{ok_or}
@@ -18,9 +19,9 @@ use Rattle.pdb_resolving.specs.declared.named_modules.MissingName.{MissingName}
 use Rattle.pdb_resolving.specs.declared.named_modules.NamedModules.{NamedModules}
 use Rattle.pdb_resolving.specs.Cause.{Cause, of_no_table}
 use Rattle.pdb_resolving.specs.Fault.{Fault, CantResolveCrossModuleRefWithoutStringTable}
-use Rattle.pdb_resolving.specs.Fault.{ModuleNameNotFound, LocalIndexNotInExports, lifted}
-use Rattle.pdb_resolving.specs.Fault.{PdbError}
-use Rattle.pdb_resolving.specs.Resolving.{Modules, last_named, imports_of, exports_of}
+use Rattle.pdb_resolving.specs.Fault.{ModuleNameNotFound, PdbError, Fails, lifted}
+use Rattle.pdb_resolving.specs.declared.error.Error.{Error}
+use Rattle.pdb_resolving.specs.Resolving.{Modules, last_named, imports_of, exports_of, exported}
 
 -- Each table that is cached is what reading gives of its module.
 pub record AreRead {T : Type 0} (read : ℕ → Result T Fault) (tables : BTreeMap ℕ T) : Type 0 where
@@ -75,11 +76,23 @@ pub record AreNamed (names : List ℕ) (entries : List Module) (named : NamedMod
   pub missing : (m : MissingName) → named.missing ≡ Some m
       → named_at names entries m.place ≡ Err (ModuleNameNotFound (string_bytes m.name))
 
+-- where what is stored of names and modules is so, a place is refused only by its fault
+abbrev pub RefusesAt : {X : Type 0} → NamedModules → ℕ → Result X Error → Type 0
+RefusesAt named place result =
+    (names : List ℕ) (entries : List Module) → AreNamed names entries named
+    → IfErr result (λ e. Fails e (named_at names entries place))
+
+-- where what is stored of names and modules is so, it still is once a place's fault was stored
+abbrev pub StayNamed : NamedModules → NamedModules → ℕ → Error → Type 0
+StayNamed old new place e =
+    (names : List ℕ) (entries : List Module) → AreNamed names entries old
+    → Fails e (named_at names entries place) → AreNamed names entries new
+
 -- what a module exports first under an index as it names it
 abbrev pub export_of : Modules → ℕ → ℕ → Result ℕ Cause
 export_of modules number local = do
   exports ← exports_of modules number
-  of_no_table (ok_or (first_export exports local) (LocalIndexNotInExports local))
+  of_no_table (exported exports local)
 
 -- what an index stands for that leads into another module, by these steps
 unfoldable pub resolved_by_steps : Modules → ℕ → ℕ → Result ℕ Cause

@@ -7,7 +7,7 @@ use Rattle.std.specs.Str.Lossy.{utf8_lossy}
 use Rattle.pdb_container.specs.Fault as container_fault
 use Rattle.pdb_container.specs.Fault.{◌>>=◌}
 use Rattle.pdb_container.specs.StringTable.{text_in}
-use Rattle.pdb_indices.specs.Index.{is_cross_module}
+use Rattle.pdb_container.specs.Index.{is_cross_module}
 use Rattle.pdb_subsections.specs.Exports.{Entry, first_export}
 use Rattle.pdb_subsections.specs.Imports.{Import, imported}
 use Rattle.pdb_resolving.specs.Failed.{stands, with_part}
@@ -99,6 +99,10 @@ exports_of modules number =
     then Err (ByFault ModuleExportsUnsuccessful)
     else of_table (tables.Exports number) (exports_read modules.provided modules.entries number)
 
+-- the index in the database's table that a module exports first under an index as it names it
+abbrev pub exported : List Entry → ℕ → Result ℕ Fault
+exported exports local = ok_or (first_export exports local) (LocalIndexNotInExports local)
+
 -- What an index of the asking module stands for that leads into another one: that module's first
 -- export of what the asking module imports. The other module is the last one of the imported name.
 unfoldable pub resolved_elsewhere : Modules → ℕ → ℕ → Result ℕ Cause
@@ -110,7 +114,7 @@ resolved_elsewhere modules asking index = do
   number ← of_no_table
       (ok_or (last_named name modules.entries) (ModuleNameNotFound (str_to_ascii_lowercase name)))
   exports ← exports_of modules number
-  of_no_table (ok_or (first_export exports target.local) (LocalIndexNotInExports target.local))
+  of_no_table (exported exports target.local)
 
 -- what an index stands for as a module has it: without bit 31 itself
 abbrev pub resolve : Modules → ℕ → ℕ → Result ℕ Cause
@@ -127,7 +131,17 @@ pub record Kept (P : Type 0) : Type 0 where
   pub names : Option (List ℕ)
   pub failed : FailedTables
 
+-- these, where no table stands as failed
+abbrev pub none_failed_of : {P : Type 0} → P → List Module → Option (List ℕ) → Kept P
+none_failed_of provider entries names = record {
+  provider = provider;
+  entries = entries;
+  names = names;
+  failed = none_failed;
+}
+
 -- these modules, by what the provider gives
+
 abbrev pub modules_by : {P : Type 0} → (P → Provided) → Kept P → Modules
 modules_by provided kept = record {
   entries = kept.entries;

@@ -42,7 +42,7 @@ impl FailedParts {
     ///
     /// # Errors
     /// `AllocError` when memory runs out.
-    pub fn keep(&mut self, number: u64) -> Result<(), AllocError>
+    pub fn keep_number(&mut self, number: u64) -> Result<(), AllocError>
         ensures kept { OnOk result (self.new ≡ with_part self.old number) }
         ensures same { OnErr result (self.new ≡ self.old) }
     {

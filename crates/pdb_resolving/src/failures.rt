@@ -82,10 +82,10 @@ impl Failures {
         ensures same { OnErr result (self.new ≡ self.old) }
     {
         match part {
-            Part::ExtendedModule(number) => self.modules.keep(u64::from(number)),
-            Part::ProcedureLines(number, start) => self.lines.keep(number_of(number, start)),
+            Part::ExtendedModule(number) => self.modules.keep_number(u64::from(number)),
+            Part::ProcedureLines(number, start) => self.lines.keep_number(number_of(number, start)),
             Part::ProcedureInlineRanges(number, start) => {
-                self.inline_ranges.keep(number_of(number, start))
+                self.inline_ranges.keep_number(number_of(number, start))
             }
         }
     }

@@ -118,7 +118,7 @@ fn module_info<'p, P: ModuleProvider>(
     ensures { Answers (λ info. P.Info.held info.now) result
         (module_numbered (P.provided provider.now) modules.now number) }
 {
-    let Some(module) = module_at(modules, number) else {
+    let Some(module) = module_numbered(modules, number) else {
         return Err(Error::OutOfRangeModuleIndex(number));
     };
     match info_of(provider, module, number) {
@@ -145,7 +145,7 @@ fn info_of<'p, P: ModuleProvider>(
 }
 
 /// The module with that index, counted from 0.
-fn module_at<'m, 'a>(modules: &'m [Module<'a>], number: usize) -> Option<&'m Module<'a>>
+fn module_numbered<'m, 'a>(modules: &'m [Module<'a>], number: usize) -> Option<&'m Module<'a>>
     ensures { option_map (λ m. m.now) result ≡ slice_get modules.now number }
 {
     modules.get(number)

@@ -4,7 +4,7 @@ ghost use Rattle.std.specs.Prelude.{◌≡◌, IfOk};
 ghost use Rattle.pdb_subsections.specs.Exports.{first_export};
 ghost use Rattle.pdb_resolving.specs.KeptTables.{AreFirst, entry_of};
 
-use pdb_indices::Local;
+use pdb_container::Local;
 use pdb_symbols_modules::{CrossModuleExport, CrossModuleExports};
 use std::alloc::{AllocError, Global};
 use std::collections::BTreeMap;

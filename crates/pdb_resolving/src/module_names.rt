@@ -40,7 +40,7 @@ impl ModuleNames {
         ensures kept { AreNames modules.now self.new }
         ensures value { Answers (λ n. n) result (numbered name.now modules.now) }
     {
-        self.read(alloc, modules)?;
+        self.keep_names(alloc, modules)?;
         let name = name.to_ascii_lowercase(alloc)?;
         match self.find(name.as_str()) {
             Some(number) => Ok(number),
@@ -50,7 +50,11 @@ impl ModuleNames {
 
     /// Caches the names of the modules, unless they are cached. Nothing changes when memory runs
     /// out.
-    fn read(&mut self, alloc: Global, modules: &[Module<'_>]) -> std::result::Result<(), AllocError>
+    fn keep_names(
+        &mut self,
+        alloc: Global,
+        modules: &[Module<'_>],
+    ) -> std::result::Result<(), AllocError>
         requires { AreNames modules.now self.old }
         ensures kept { AreNames modules.now self.new }
         ensures there { OnOk result (IsSome self.new.numbers) }
@@ -93,7 +97,7 @@ fn numbers_by_name(
 /// The name of a module in ASCII lower case.
 fn lower_name(alloc: Global, module: &Module<'_>) -> std::result::Result<String, AllocError>
     ensures { IfOk result
-        (λ name. string_bytes name ≡ str_to_ascii_lowercase (utf8_lossy «module».now.module_name)) }
+        (λ n. string_bytes n ≡ str_to_ascii_lowercase (utf8_lossy «module».now.module_name)) }
 {
     match module.module_name(alloc) {
         Ok(name) => name.as_str().to_ascii_lowercase(alloc),

@@ -1,10 +1,10 @@
 //! The modules that places in the string table lead to, each found once.
 
-ghost use Rattle.std.specs.Prelude.{◌≡◌, ℕ, List, Err, IfErr, ◌⊎◌, string_bytes};
+ghost use Rattle.std.specs.Prelude.{◌≡◌, ℕ, List, ◌⊎◌};
 ghost use Rattle.pdb_symbols_modules.specs.Modules as entries;
 ghost use Rattle.pdb_container.specs.declared.error.Error as container;
-ghost use Rattle.pdb_resolving.specs.Fault.{Answers, Fails, ModuleNameNotFound, error_of};
-ghost use Rattle.pdb_resolving.specs.KeptTables.{named_at, AreNamed, AreNames};
+ghost use Rattle.pdb_resolving.specs.Fault.{Answers, error_of};
+ghost use Rattle.pdb_resolving.specs.KeptTables.{named_at, AreNamed, AreNames, RefusesAt, StayNamed};
 ghost use Rattle.pdb_resolving.specs.declared.error.Error.TheVariants as errors;
 
 use crate::error::{Error, Result};
@@ -50,7 +50,7 @@ impl NamedModules {
     /// # Errors
     /// The name's fault, `ModuleNameNotFound`, `OutOfMemory`.
     #[tactic(auto, using(crate::proofs::Lifting::given_fails_on))]
-    pub fn number(
+    pub fn number_by_reference(
         &mut self,
         alloc: Global,
         strings: &StringTable<'_>,
@@ -90,8 +90,7 @@ impl NamedModules {
     /// # Errors
     /// `UnexpectedEof` where it is stored that none does.
     fn check_end(&self, place: StringRef) -> Result<()>
-        ensures { (names : List ℕ) (modules : List entries.Module) → AreNamed names modules self.now
-            → IfErr result (λ e. Fails e (named_at names modules place.0)) }
+        ensures { RefusesAt self.now place.0 result }
     {
         match self.unended {
             Some(first) if first <= place.0 => {
@@ -106,8 +105,7 @@ impl NamedModules {
     /// # Errors
     /// `ModuleNameNotFound` where it is stored that none has; `OutOfMemory`.
     fn check_missing(&self, place: StringRef) -> Result<()>
-        ensures { (names : List ℕ) (modules : List entries.Module) → AreNamed names modules self.now
-            → IfErr result (λ e. Fails e (named_at names modules place.0)) }
+        ensures { RefusesAt self.now place.0 result }
     {
         match &self.missing {
             Some(missing) if missing.place == place.0 => {
@@ -119,9 +117,7 @@ impl NamedModules {
 
     /// Stores that no name ends from the place on, if that is the fault.
     fn store_unended(&mut self, place: StringRef, fault: &pdb_container::Error)
-        ensures { (names : List ℕ) (modules : List entries.Module) → AreNamed names modules self.old
-            → Fails (error_of fault.now) (named_at names modules place.0)
-            → AreNamed names modules self.new }
+        ensures { StayNamed self.old self.new place.0 (error_of fault.now) }
     {
         if let pdb_container::Error::UnexpectedEof = fault {
             self.unended = Some(place.0);
@@ -132,9 +128,7 @@ impl NamedModules {
     /// `OutOfMemory`.
     fn store_missing(&mut self, place: StringRef, fault: Error) -> Error
         ensures same { (result ≡ fault) ⊎ (result ≡ errors.OutOfMemory) }
-        ensures kept { (names : List ℕ) (modules : List entries.Module)
-            → AreNamed names modules self.old
-            → Fails fault (named_at names modules place.0) → AreNamed names modules self.new }
+        ensures kept { StayNamed self.old self.new place.0 fault }
     {
         match fault {
             Error::ModuleNameNotFound(name) => self.store_name(place, name),
@@ -145,10 +139,7 @@ impl NamedModules {
     /// Stores a name that no module has, and returns that fault, or `OutOfMemory`.
     fn store_name(&mut self, place: StringRef, name: String) -> Error
         ensures same { (result ≡ errors.ModuleNameNotFound name) ⊎ (result ≡ errors.OutOfMemory) }
-        ensures kept { (names : List ℕ) (modules : List entries.Module)
-            → AreNamed names modules self.old
-            → named_at names modules place.0 ≡ Err (ModuleNameNotFound (string_bytes name))
-            → AreNamed names modules self.new }
+        ensures kept { StayNamed self.old self.new place.0 (errors.ModuleNameNotFound name) }
     {
         match name.clone() {
             Ok(kept) => {

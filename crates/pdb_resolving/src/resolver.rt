@@ -1,15 +1,15 @@
 //! Indices that lead into another module.
 
-ghost use Rattle.std.specs.Prelude.{◌≡◌, option_map, OnErr, OnOk, Some};
-ghost use Rattle.std.specs.Option.{ok_or};
-ghost use Rattle.pdb_subsections.specs.Exports.{first_export};
+ghost use Rattle.std.specs.Prelude.{◌≡◌, OnErr, OnOk, Some};
+ghost use Rattle.std.specs.Option.{option_copied};
 ghost use Rattle.pdb_subsections.specs.Imports.{imported as import_by, reference};
 ghost use Rattle.pdb_resolving.specs.Cause.{Finds, of_no_table};
-ghost use Rattle.pdb_resolving.specs.Fault.{Answers, lifted, LocalIndexNotInExports};
+ghost use Rattle.pdb_resolving.specs.Fault.{Answers, lifted};
 ghost use Rattle.pdb_resolving.specs.KeptTables.{export_of as module_export};
 ghost use Rattle.pdb_resolving.specs.KeptTables.{import_of as module_import};
 ghost use Rattle.pdb_resolving.specs.KeptTables.{named_at, resolved_by_steps};
-ghost use Rattle.pdb_resolving.specs.Resolving.{resolve, none_failed, modules_by, with_failed};
+ghost use Rattle.pdb_resolving.specs.Resolving.{exported as exported_of};
+ghost use Rattle.pdb_resolving.specs.Resolving.{resolve, none_failed_of, modules_by, with_failed};
 
 use crate::error::{Error, Result};
 use crate::failed_parts::FailedParts;
@@ -20,8 +20,7 @@ use crate::named_modules::NamedModules;
 use crate::provider::ModuleProvider;
 use crate::stop::{self, Stop};
 use crate::table::Table;
-use pdb_container::{StringRef, StringTable};
-use pdb_indices::{ItemIndex, Local, TypeIndex};
+use pdb_container::{ItemIndex, Local, StringRef, StringTable, TypeIndex};
 use pdb_symbols_modules::{CrossModuleImports, CrossModuleRef, Module, ModuleRef};
 use std::alloc::{AllocError, Global};
 use std::collections::BTreeMap;
@@ -79,12 +78,8 @@ impl<'a, 's, P: ModuleProvider> Resolver<'a, 's, P> {
         modules: Vec<Module<'a>>,
         string_table: Option<&'a StringTable<'s>>,
     ) -> Resolver<'a, 's, P>
-        ensures { result ≡ record {
-          provider = provider.now;
-          entries = modules.entry.items;
-          names = option_map (λ t. t.now) string_table.entry;
-          failed = none_failed;
-        } }
+        ensures { result
+            ≡ none_failed_of provider.now modules.entry.items (option_copied string_table.entry) }
     {
         Resolver {
             provider,
@@ -139,8 +134,8 @@ impl<'a, 's, P: ModuleProvider> Resolver<'a, 's, P> {
         ensures same { OnErr result (self.new ≡ self.old) }
     {
         match table {
-            Table::Imports(number) => self.failed_imports.keep(number as u64),
-            Table::Exports(number) => self.failed_exports.keep(number as u64),
+            Table::Imports(number) => self.failed_imports.keep_number(number as u64),
+            Table::Exports(number) => self.failed_exports.keep_number(number as u64),
         }
     }
 
@@ -160,7 +155,7 @@ impl<'a, 's, P: ModuleProvider> Resolver<'a, 's, P> {
             return Err(Stop::ByError(Error::CantResolveCrossModuleRefWithoutStringTable));
         };
         let CrossModuleRef(ModuleRef(name), local) = self.import_of(alloc, module_index, index)?;
-        let number = self.number_of(alloc, names, name)?;
+        let number = self.module_by_name(alloc, names, name)?;
         self.export_of(alloc, number, local)
     }
 
@@ -195,7 +190,7 @@ impl<'a, 's, P: ModuleProvider> Resolver<'a, 's, P> {
     ///
     /// # Errors
     /// The name's fault, `ModuleNameNotFound`, `OutOfMemory`.
-    fn number_of(
+    fn module_by_name(
         &mut self,
         alloc: Global,
         strings: &StringTable<'_>,
@@ -207,7 +202,7 @@ impl<'a, 's, P: ModuleProvider> Resolver<'a, 's, P> {
     {
         let modules = self.modules.as_slice();
         self.named
-            .number(alloc, strings, modules, &mut self.names, name)
+            .number_by_reference(alloc, strings, modules, &mut self.names, name)
     }
 
     /// What the module with that index exports first under an index as it names it.
@@ -259,8 +254,7 @@ fn imported(
 /// `LocalIndexNotInExports`.
 fn exported(exports: &ModuleExports<'_>, local: Local<TypeIndex>) -> stop::Result<u32>
     ensures { Finds (λ n. n) result
-        (of_no_table
-        (ok_or (first_export exports.now local.0.0) (LocalIndexNotInExports local.0.0))) }
+        (of_no_table (exported_of exports.now local.0.0)) }
 {
     match exports.first(local.0.0) {
         Some(index) => Ok(index),

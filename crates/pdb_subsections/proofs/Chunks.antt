@@ -8,7 +8,7 @@ use Rattle.std.specs.Int.{w32, from_le_bytes}
 use Rattle.std.specs.Simd.{first_chunks}
 use Rattle.pdb_container.specs.Fault.{Fault, UnexpectedEof}
 use Rattle.pdb_container.specs.Fields.{number_at, bytes_of, entries_within}
-use Rattle.pdb_indices.specs.RecordFields.{many_at}
+use Rattle.pdb_container.specs.RecordFields.{many_at}
 use Rattle.pdb_subsections.specs.Exports.{export_at, export_in, exports_by_eight, exports_of}
 
 -- the first chunks of bytes lie in any prefix that has room for them

@@ -8,9 +8,9 @@ use Rattle.std.specs.List.{find, AllByRecursion}
 use Rattle.pdb_container.specs.Container.{word_at}
 use Rattle.pdb_container.specs.Fault.{Fault, ◌>>=◌}
 use Rattle.pdb_container.specs.Fields.{Reader, number_at, entries}
-use Rattle.pdb_indices.specs.IdIndex.{id_index}
-use Rattle.pdb_indices.specs.Index.{is_cross_module}
-use Rattle.pdb_indices.specs.TypeIndex.{type_index}
+use Rattle.pdb_container.specs.IdIndex.{id_index}
+use Rattle.pdb_container.specs.Index.{is_cross_module}
+use Rattle.pdb_container.specs.TypeIndex.{type_index}
 use Rattle.pdb_subsections.specs.declared.exports.CrossModuleExport.{CrossModuleExport}
 use Rattle.pdb_subsections.specs.declared.exports.CrossModuleExport.TheVariants as forms
 use Rattle.pdb_subsections.specs.declared.exports.Export.{Export}

@@ -7,8 +7,8 @@ use Rattle.std.specs.Int.{w32, from_le_bytes}
 use Rattle.pdb_container.specs.Fault.{Fault, NotACrossModuleRef, CrossModuleRefNotFound, ◌>>=◌}
 use Rattle.pdb_container.specs.Fault.{guard}
 use Rattle.pdb_container.specs.Fields.{Reader, number_at, entries}
-use Rattle.pdb_indices.specs.Index.{is_cross_module}
-use Rattle.pdb_indices.specs.RecordFields.{many_at}
+use Rattle.pdb_container.specs.Index.{is_cross_module}
+use Rattle.pdb_container.specs.RecordFields.{many_at}
 use Rattle.pdb_subsections.specs.declared.imports.CrossModuleRef.{CrossModuleRef}
 use Rattle.pdb_subsections.specs.declared.imports.ImportedModule.{ImportedModule}
 

@@ -5,8 +5,7 @@ ghost use Rattle.pdb_container.specs.Fault.{Parses};
 ghost use Rattle.pdb_subsections.specs.Exports.{exports_of, exports_by_eight, export_in};
 ghost use Rattle.pdb_subsections.specs.Exports.{export_form, first_export};
 
-use pdb_container::{Error, Result};
-use pdb_indices::{IdIndex, ItemIndex, Local, TypeIndex};
+use pdb_container::{Error, IdIndex, ItemIndex, Local, Result, TypeIndex};
 use std::marker::Model;
 
 /// An index as the module names it, and the index in the file's table of types or of ids.

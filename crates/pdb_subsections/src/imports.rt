@@ -5,12 +5,11 @@ ghost use Rattle.std.specs.Int.{w32};
 ghost use Rattle.pdb_container.specs.Buffer.{rest, ParsesFront};
 ghost use Rattle.pdb_container.specs.Fault.{Gives, Parses};
 ghost use Rattle.pdb_container.specs.Fields.{number_at};
-ghost use Rattle.pdb_indices.specs.RecordFields.{many_at};
+ghost use Rattle.pdb_container.specs.RecordFields.{many_at};
 ghost use Rattle.pdb_subsections.specs.Imports.{import_at, imports_of, import_in, numbers_in};
 ghost use Rattle.pdb_subsections.specs.Imports.{imported, imported_from, found_import, reference};
 
-use pdb_container::{Error, ParseBuffer, Result, StringRef};
-use pdb_indices::{ItemIndex, Local};
+use pdb_container::{Error, ItemIndex, Local, ParseBuffer, Result, StringRef};
 use std::alloc::Global;
 use std::marker::Model;
 

@@ -1,7 +1,7 @@
 //! Rows of line data.
 
 use pdb_addresses::PdbInternalSectionOffset;
-use pdb_indices::FileIndex;
+use pdb_container::FileIndex;
 
 /// The kind of a row: what its code was made of.
 #[derive(Clone, Copy, Debug, PartialEq, Eq)]

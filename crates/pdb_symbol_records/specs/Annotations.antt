@@ -5,7 +5,7 @@ use Rattle.std.specs.Prelude.{Option, None, Some, Ok, Err, if◌then◌else◌}
 use Rattle.pdb_container.specs.Fault.{Fault, UnknownBinaryAnnotation, ◌>>=◌}
 use Rattle.pdb_container.specs.Fields.{Reader}
 use Rattle.pdb_container.specs.Listing.{Listing, ending, before, listing}
-use Rattle.pdb_indices.specs.RecordFields.{as_value}
+use Rattle.pdb_container.specs.RecordFields.{as_value}
 use Rattle.pdb_symbol_records.specs.Numbers.{compressed_at, signed_of}
 use Rattle.pdb_symbol_records.specs.declared.annotation.BinaryAnnotation.{BinaryAnnotation}
 use Rattle.pdb_symbol_records.specs.declared.annotation.BinaryAnnotation.TheVariants as kinds

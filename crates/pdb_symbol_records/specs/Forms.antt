@@ -1,12 +1,12 @@
 -- What a symbol says, with the bytes of its name in place of where they lie.
 use Rattle.std.specs.Prelude.{ℕ, List, Bool, Option}
 use Rattle.pdb_container.specs.RawString.{raw_bytes}
-use Rattle.pdb_indices.specs.declared.index.IdIndex.{IdIndex}
-use Rattle.pdb_indices.specs.declared.index.TypeIndex.{TypeIndex}
+use Rattle.pdb_container.specs.declared.index.IdIndex.{IdIndex}
+use Rattle.pdb_container.specs.declared.index.TypeIndex.{TypeIndex}
 use Rattle.pdb_addresses.specs.declared.internal_section_offset.PdbInternalSectionOffset.{
   PdbInternalSectionOffset,
 }
-use Rattle.pdb_indices.specs.declared.numbers.SymbolIndex.{SymbolIndex}
+use Rattle.pdb_container.specs.declared.index_numbers.SymbolIndex.{SymbolIndex}
 use Rattle.pdb_symbol_records.specs.Annotations.{annotation_bytes}
 use Rattle.pdb_symbol_records.specs.declared.inline_site.InlineSiteSymbol.{InlineSiteSymbol}
 use Rattle.pdb_symbol_records.specs.declared.symbol_data.PublicSymbol.{PublicSymbol}

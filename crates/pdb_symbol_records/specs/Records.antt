@@ -5,8 +5,8 @@ use Rattle.std.specs.Prelude.{slice_index, nat_lt, ◌==◌, if◌then◌else◌
 use Rattle.pdb_container.specs.Fault.{Fault, UnexpectedEof, UnimplementedSymbolKind, ◌>>=◌, refuse}
 use Rattle.pdb_container.specs.Container.{half_at, word_at}
 use Rattle.pdb_container.specs.Fields.{Reader, c_string_at, pascal_string_at}
-use Rattle.pdb_indices.specs.Bits.{has_bit}
-use Rattle.pdb_indices.specs.declared.numbers.SymbolIndex.{SymbolIndex}
+use Rattle.pdb_container.specs.Bits.{has_bit}
+use Rattle.pdb_container.specs.declared.index_numbers.SymbolIndex.{SymbolIndex}
 use Rattle.pdb_symbol_records.specs.declared.symbol_data.SeparatedCodeSymbol.{SeparatedCodeSymbol}
 use Rattle.pdb_symbol_records.specs.Forms as forms
 use Rattle.pdb_symbol_records.specs.Forms.{PublicForm, ProcedureForm, ThunkForm, InlineSiteForm}

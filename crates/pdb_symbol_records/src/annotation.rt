@@ -7,8 +7,7 @@ ghost use Rattle.pdb_symbol_records.specs.Annotations.{with_length_at, behind_op
 ghost use Rattle.pdb_symbol_records.specs.Annotations.{annotation_or_end};
 ghost use Rattle.pdb_symbol_records.specs.Numbers.{signed_of, second_at, others_at, compressed_at};
 
-use pdb_container::{Error, ParseBuffer, Result};
-use pdb_indices::FileIndex;
+use pdb_container::{Error, FileIndex, ParseBuffer, Result};
 
 /// A binary annotation: a step of the list that says where an inlined call's code lies, and from
 /// which lines it was made. Three kinds of them give a row of what all steps up to it say. Offsets

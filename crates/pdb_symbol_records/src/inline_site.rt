@@ -1,7 +1,7 @@
 //! Inline sites (`S_INLINESITE`, `S_INLINESITE2`): the symbols of inlined calls.
 
 use crate::annotations::BinaryAnnotations;
-use pdb_indices::{IdIndex, SymbolIndex};
+use pdb_container::{IdIndex, SymbolIndex};
 
 /// An inline site (`S_INLINESITE`, `S_INLINESITE2`), which is an inlined call: the symbol around it
 /// and the one that ends it, which function was inlined, and where its code lies.

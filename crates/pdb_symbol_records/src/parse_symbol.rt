@@ -33,8 +33,9 @@ use crate::symbol_data::{
     ProcedureSymbol, PublicSymbol, SeparatedCodeSymbol, SymbolData, ThunkSymbol,
 };
 use pdb_addresses::PdbInternalSectionOffset;
-use pdb_container::{Error, ParseBuffer, RawString, Result, half_at, word_at};
-use pdb_indices::{IdIndex, SymbolIndex, TypeIndex};
+use pdb_container::{
+    Error, IdIndex, ParseBuffer, RawString, Result, SymbolIndex, TypeIndex, half_at, word_at,
+};
 
 impl<'t> Symbol<'t> {
     /// What the symbol says, by its kind (`S_*`).

@@ -6,8 +6,7 @@ ghost use Rattle.pdb_symbol_records.specs.Kinds.{starts_scope, ends_scope};
 ghost use Rattle.pdb_symbol_records.specs.Symbols.{kind_of, payload_of, symbol_at};
 
 use crate::kinds;
-use pdb_container::{Error, Result, half_at};
-use pdb_indices::SymbolIndex;
+use pdb_container::{Error, Result, SymbolIndex, half_at};
 use std::marker::Model;
 
 /// A CodeView symbol: the place of its length in the bytes of its list, and the bytes after the

@@ -2,8 +2,7 @@
 
 use crate::inline_site::InlineSiteSymbol;
 use pdb_addresses::PdbInternalSectionOffset;
-use pdb_container::RawString;
-use pdb_indices::{SymbolIndex, TypeIndex};
+use pdb_container::{RawString, SymbolIndex, TypeIndex};
 
 /// A CodeView symbol's form: what it says, in the forms that are read.
 #[derive(Clone, Copy, Debug)]

@@ -10,8 +10,7 @@ ghost use Rattle.pdb_symbol_records.specs.Symbols.{next};
 
 use crate::kinds::is_padding;
 use crate::symbol::{Symbol, parse_symbol};
-use pdb_container::{Error, FallibleIterator, Result};
-use pdb_indices::SymbolIndex;
+use pdb_container::{Error, FallibleIterator, Result, SymbolIndex};
 use std::marker::Model;
 
 /// An iterator over the symbols of a list in their order. At the end and after an error it stands

@@ -4,8 +4,7 @@ ghost use Rattle.std.specs.Prelude.{◌≡◌};
 ghost use Rattle.pdb_symbol_records.specs.Iteration.{iteration_at};
 
 use crate::symbol_iter::SymbolIter;
-use pdb_container::Stream;
-use pdb_indices::SymbolIndex;
+use pdb_container::{Stream, SymbolIndex};
 use std::marker::Model;
 
 /// A symbol table: the symbols that a stream holds from its first byte on.

@@ -5,8 +5,8 @@ use Rattle.std.specs.Prelude.{map, None, Some, option_map}
 use Rattle.std.specs.List.{find}
 use Rattle.std.proofs.lemmas.List.{map-append}
 use Rattle.pdb_container.specs.Fault.{Fault, StreamNameNotFound}
-use Rattle.pdb_indices.specs.RecordFields.{many_at}
-use Rattle.pdb_indices.proofs.Many.{many_front, many_start, many_more, many_fail, many_done}
+use Rattle.pdb_container.specs.RecordFields.{many_at}
+use Rattle.pdb_container.proofs.Many.{many_front, many_start, many_more, many_fail, many_done}
 use Rattle.pdb_symbols_modules.specs.Information.{stream_name_at, is_named, number_in, number_of}
 use Rattle.pdb_symbols_modules.specs.Information as information
 use Rattle.pdb_symbols_modules.specs.NameBlock.{stream_name_seen}

@@ -8,7 +8,7 @@ use Rattle.std.specs.Int.{w32}
 use Rattle.pdb_container.specs.Fault.{Fault, StreamNameNotFound, ◌>>=◌}
 use Rattle.pdb_container.specs.Fields.{Reader, number_at, bytes_of}
 use Rattle.pdb_container.specs.StringTable.{name_in}
-use Rattle.pdb_indices.specs.RecordFields.{many_at}
+use Rattle.pdb_container.specs.RecordFields.{many_at}
 
 -- what a database says of itself, and the whole stream
 pub record Information : Type 0 where
@@ -55,6 +55,10 @@ stream_name_at names bytes = do
   name ← name_in names offset.0
   Ok (record { name = name; stream_id = stream_number number.0 }, number.1)
 
+-- that many entries
+abbrev pub stream_names_at : List ℕ → ℕ → Reader (List StreamName)
+stream_names_at names count = many_at (stream_name_at names) count
+
 -- four-byte words of bits, after their count
 abbrev pub bits_at : Reader (List ℕ)
 bits_at bytes = number_at w32 bytes >>= λ count. bytes_of (4 * count.0) count.1
@@ -71,7 +75,7 @@ stream_names_of bytes = do
   room ← number_at w32 count.1
   used ← bits_at room.1
   deleted ← bits_at used.1
-  found ← many_at (stream_name_at names.0) count.0 deleted.1
+  found ← stream_names_at names.0 count.0 deleted.1
   Ok found.0
 
 -- the number of the first entry of a name

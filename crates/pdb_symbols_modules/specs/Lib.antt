@@ -10,3 +10,4 @@ pub mod OptionalHeader
 pub mod Shared
 pub mod Streams
 pub mod ModuleStream
+pub mod DatabaseAnswers

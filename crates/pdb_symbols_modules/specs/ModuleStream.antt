@@ -8,7 +8,7 @@ use Rattle.pdb_container.specs.Fields.{number_at}
 use Rattle.pdb_container.specs.Listing.{Listing, ending}
 use Rattle.pdb_subsections.specs.Exports.{Entry, exports_of}
 use Rattle.pdb_subsections.specs.Imports.{Import, imports_of}
-use Rattle.pdb_inlinees.specs.Inlinees.{InlinedFunction, inlinees_of}
+use Rattle.pdb_lines.specs.Inlinees.{InlinedFunction, inlinees_of}
 use Rattle.pdb_lines.specs.LinesSubsections.{Program, program_of}
 use Rattle.pdb_subsections.specs.Subsections.{inlinees_kind, imports_kind, exports_kind}
 use Rattle.pdb_subsections.specs.Subsections.{subsections_of, first_of}
@@ -20,6 +20,15 @@ pub record ModuleStream : Type 0 where
   pub symbols_size : ℕ
   pub c11_lines_size : ℕ
   pub c13_lines_size : ℕ
+
+-- the stream's bytes with the sizes of its parts
+abbrev pub with_parts : List ℕ → ℕ → ℕ → ℕ → ModuleStream
+with_parts bytes symbols_size c11_lines_size c13_lines_size = record {
+  bytes = bytes;
+  symbols_size = symbols_size;
+  c11_lines_size = c11_lines_size;
+  c13_lines_size = c13_lines_size;
+}
 
 -- ---- symbols
 

@@ -1,5 +1,6 @@
 -- Names of streams as the code stores them.
-use Rattle.std.specs.Prelude.{ℕ, ◌+◌, Bool, not, List, [], ◌∷◌, nat_lt, ◌==◌, if◌then◌else◌}
+use Rattle.std.specs.Prelude.{ℕ, ◌+◌, Bool, not, List, [], ◌∷◌, map, nat_lt, ◌==◌, if◌then◌else◌}
+use Rattle.std.specs.Global.{Vec}
 use Rattle.pdb_container.specs.RawString.{raw_bytes}
 use Rattle.pdb_symbols_modules.specs.Information as information
 use Rattle.pdb_symbols_modules.specs.declared.information.StreamName.{StreamName}
@@ -18,3 +19,7 @@ nul_places at (b ∷ bytes) =
 -- a place that isn't below an offset
 abbrev pub is_reached : ℕ → ℕ → Bool
 is_reached offset place = not (nat_lt place offset)
+
+-- entries, each of them so
+abbrev pub stream_names_seen : Vec StreamName → List information.StreamName
+stream_names_seen entries = map stream_name_seen entries.items

@@ -8,12 +8,13 @@ ghost use Rattle.pdb_container.specs.Buffer.{rest, Reads, ParsesFront};
 ghost use Rattle.pdb_container.specs.Fault.{Gives, Parses};
 ghost use Rattle.pdb_container.specs.Fields.{bytes_of};
 ghost use Rattle.pdb_container.specs.StringTable.{name_in};
-ghost use Rattle.pdb_indices.specs.RecordFields.{GivesFront, many_at};
+ghost use Rattle.pdb_container.specs.RecordFields.{GivesFront};
 ghost use Rattle.pdb_symbols_modules.specs.Information.{information_of, stream_number};
-ghost use Rattle.pdb_symbols_modules.specs.Information.{stream_name_at, bits_at, stream_names_of};
+ghost use Rattle.pdb_symbols_modules.specs.Information.{stream_name_at, stream_names_at};
+ghost use Rattle.pdb_symbols_modules.specs.Information.{bits_at, stream_names_of};
 ghost use Rattle.pdb_symbols_modules.specs.Information.{number_in, is_named, number_of};
 ghost use Rattle.pdb_container.specs.RawString.{raw_bytes};
-ghost use Rattle.pdb_symbols_modules.specs.NameBlock.{stream_name_seen};
+ghost use Rattle.pdb_symbols_modules.specs.NameBlock.{stream_name_seen, stream_names_seen};
 
 use crate::name_block::NameBlock;
 use crate::stream_index::StreamIndex;
@@ -200,8 +201,8 @@ fn parse_names<'n>(
     buffer: &mut ParseBuffer<'_>,
     count: u32,
 ) -> Result<Vec<StreamName<'n>>>
-    ensures { GivesFront (λ v. map stream_name_seen v.items) result (rest buffer.new)
-        (many_at (stream_name_at names.now) count (rest buffer.old)) }
+    ensures { GivesFront stream_names_seen result (rest buffer.new)
+        (stream_names_at names.now count (rest buffer.old)) }
 {
     let mut entries = Vec::new(alloc);
     for _ in 0..count {

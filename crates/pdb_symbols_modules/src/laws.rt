@@ -13,8 +13,9 @@ use std::hash::Hash;
 /// `==` of numbers of streams returns true exactly for one and the same number, and equal numbers
 /// hash alike.
 pub fn equal_stream_indices_hash_alike()
-    ensures { (a b : Number) → ((⟦<StreamIndex as PartialEq>⟧.eq a b ≡ true) ↔ (a ≡ b))
-        × (a ≡ b → ⟦<StreamIndex as Hash>⟧.hash_input a ≡ ⟦<StreamIndex as Hash>⟧.hash_input b) }
+    ensures equal { (a b : Number) → (⟦<StreamIndex as PartialEq>⟧.eq a b ≡ true) ↔ (a ≡ b) }
+    ensures hash { (a b : Number) → a ≡ b
+        → ⟦<StreamIndex as Hash>⟧.hash_input a ≡ ⟦<StreamIndex as Hash>⟧.hash_input b }
 {}
 
 /// A module's own stream and stream 3 decide what the module holds. Where both are equal in two

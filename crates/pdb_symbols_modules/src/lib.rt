@@ -30,7 +30,7 @@
 //! }
 //! ```
 //!
-//! The program `list_lines` has all of it.
+//! `list_lines.rt` in the program `example_calls` has all of it.
 #![tactic(auto)]
 
 mod contributions;
@@ -55,8 +55,10 @@ pub use optional_header::{
     OMAP_FROM_SOURCE, OMAP_TO_SOURCE, ORIGINAL_SECTION_HEADERS, SECTION_HEADERS,
 };
 pub use pdb::PDB;
-pub use pdb_inlinees::{Inlinee, InlineeIterator, InlineeLineIterator};
-pub use pdb_lines::{FileChecksum, FileInfo, FileIterator, LineIterator, LineProgram};
+pub use pdb_lines::{
+    FileChecksum, FileInfo, FileIterator, Inlinee, InlineeIterator, InlineeLineIterator,
+    LineIterator, LineProgram,
+};
 pub use pdb_subsections::{
     CrossModuleExport, CrossModuleExportIter, CrossModuleExports, CrossModuleImports,
     CrossModuleRef, LineInfo, LineInfoKind, ModuleRef,

@@ -4,15 +4,13 @@ ghost use Rattle.std.specs.Prelude.{◌≡◌, ◌<◌, ◌^◌, length, IfOk, O
 ghost use Rattle.pdb_container.specs.Fault.{Gives, Parses};
 ghost use Rattle.pdb_symbols_modules.specs.ModuleStream.{signed as signed_bytes, symbol_list_bytes};
 ghost use Rattle.pdb_symbols_modules.specs.ModuleStream.{iteration_in, line_data_in};
-ghost use Rattle.pdb_symbols_modules.specs.ModuleStream.{line_program_in};
+ghost use Rattle.pdb_symbols_modules.specs.ModuleStream.{line_program_in, with_parts};
 ghost use Rattle.pdb_symbols_modules.specs.ModuleStream.{subsection_in, inlinees_in, imports_in};
 ghost use Rattle.pdb_symbols_modules.specs.ModuleStream.{exports_in};
 ghost use Rattle.pdb_subsections.specs.Subsections.{bytes_seen};
 
-use pdb_container::{Error, ParseBuffer, Result, Stream};
-use pdb_indices::SymbolIndex;
-use pdb_inlinees::InlineeIterator;
-use pdb_lines::LineProgram;
+use pdb_container::{Error, ParseBuffer, Result, Stream, SymbolIndex};
+use pdb_lines::{InlineeIterator, LineProgram};
 use pdb_subsections::{
     CROSS_MODULE_EXPORTS, CROSS_MODULE_IMPORTS, CrossModuleExports, CrossModuleImports,
     INLINEE_LINES, find_subsection,
@@ -62,12 +60,7 @@ impl<'s> ModuleInfo<'s> {
         c13_lines_size: u32,
     ) -> Result<ModuleInfo<'s>>
         ensures { Gives (λ m. m) ⊥ result
-            (Ok (record {
-              bytes = stream.entry;
-              symbols_size = symbols_size;
-              c11_lines_size = c11_lines_size;
-              c13_lines_size = c13_lines_size;
-            })) }
+            (Ok (with_parts stream.entry symbols_size c11_lines_size c13_lines_size)) }
     {
         match Arc::new(alloc, stream) {
             Ok(stream) => Ok(ModuleInfo {
@@ -92,12 +85,7 @@ impl<'s> ModuleInfo<'s> {
         c13_lines_size: u32,
     ) -> Result<ModuleInfo<'s>>
         ensures { Gives (λ m. m) ⊥ result
-            (Ok (record {
-              bytes = self.now.bytes;
-              symbols_size = symbols_size;
-              c11_lines_size = c11_lines_size;
-              c13_lines_size = c13_lines_size;
-            })) }
+            (Ok (with_parts self.now.bytes symbols_size c11_lines_size c13_lines_size)) }
     {
         let stream = self.stream.clone()?;
         Ok(ModuleInfo {

@@ -1,21 +1,20 @@
 //! An open program database.
 
-ghost use Rattle.std.specs.Prelude.{◌≡◌, ◌≤◌, ◌-◌, ◌^◌, ◌⊎◌, IfOk, IfErr, None, Some, length};
-ghost use Rattle.std.specs.Prelude.{option_map};
-ghost use Rattle.pdb_container.specs.SourceAnswers.{AnswersFrom};
-ghost use Rattle.pdb_container.specs.Fault.{fault_of, Gives, HasRisen, IsOutside};
-ghost use Rattle.pdb_symbols_modules.specs.AddressTables.{read_if_there, sections_by};
-ghost use Rattle.pdb_symbols_modules.specs.AddressTables.{original_sections_by, map_with};
-ghost use Rattle.pdb_symbols_modules.specs.AddressTables.{map_behind, address_map_by};
+ghost use Rattle.std.specs.Prelude.{◌≡◌, ◌≤◌, ◌-◌, ◌^◌, ◌⊎◌, IfOk, IfErr, Some, length};
+ghost use Rattle.pdb_container.specs.Fault.{Gives};
+ghost use Rattle.pdb_symbols_modules.specs.AddressTables.{read_if_there};
 ghost use Rattle.pdb_addresses.specs.Omap.{omap_of};
 ghost use Rattle.pdb_addresses.specs.Sections.{section_headers_of};
+ghost use Rattle.pdb_symbols_modules.specs.DatabaseAnswers.{FileGives, DBIGives, listed};
+ghost use Rattle.pdb_symbols_modules.specs.DatabaseAnswers.{IsOpened, IsNotOpened};
 ghost use Rattle.pdb_symbols_modules.specs.DatabaseCalls.{information, named_stream, names};
 ghost use Rattle.pdb_symbols_modules.specs.DatabaseCalls.{debug_information, types, ids};
-ghost use Rattle.pdb_symbols_modules.specs.DatabaseCalls.{global_symbols_by, global_symbols};
-ghost use Rattle.pdb_symbols_modules.specs.DatabaseCalls.{sections, address_map, module_info};
-ghost use Rattle.pdb_symbols_modules.specs.OptionalHeader.{optional_stream};
+ghost use Rattle.pdb_symbols_modules.specs.DatabaseCalls.{global_symbols, symbols_in, named_at};
+ghost use Rattle.pdb_symbols_modules.specs.DatabaseCalls.{sections, sections_in, originals_in};
+ghost use Rattle.pdb_symbols_modules.specs.DatabaseCalls.{address_map, address_map_in, map_in};
+ghost use Rattle.pdb_symbols_modules.specs.DatabaseCalls.{module_info};
 ghost use Rattle.pdb_symbols_modules.specs.Shared.{shared};
-ghost use Rattle.pdb_symbols_modules.specs.Streams.{streams, stream_if_named};
+ghost use Rattle.pdb_symbols_modules.specs.Streams.{stream_if_named};
 
 use crate::dbi::DebugInformation;
 use crate::information::PDBInformation;
@@ -28,9 +27,8 @@ use crate::stream_index::StreamIndex;
 use pdb_addresses::{
     AddressMap, ImageSectionHeader, OMAPRecord, parse_omap, parse_section_headers,
 };
-use pdb_container::{BigMSF, Error, Msf, Result, Source, Stream, StringTable, open_msf};
-use pdb_indices::ItemIndex;
-use pdb_items::{IdInformation, ItemInformation, TypeInformation};
+use pdb_container::{BigMSF, Error, ItemIndex, Msf, Result, Source, Stream, StringTable, open_msf};
+use pdb_container_types::{IdInformation, ItemInformation, TypeInformation};
 use pdb_symbol_records::SymbolTable;
 use std::alloc::Global;
 use std::marker::Model;
@@ -56,12 +54,8 @@ impl<'s, S: Source + Drop> PDB<'s, S> {
     /// `IoError` where the source failed.
     #[tactic(auto, using(crate::proofs::Opening::opened_well, crate::proofs::Opening::not_opened), unfolding(crate::specs::Streams::streams))]
     pub fn open(alloc: Global, source: S) -> Result<PDB<'s, S>>
-        ensures file { IfOk result (λ p. (S.bytes p ≡ S.bytes source)
-            × (S.failures source ≤ S.failures p) × ((streams (S.bytes source)).open_fault ≡ None)) }
-        ensures err { IfErr result
-            (λ e. IsOutside e ((after : S) × (S.bytes after ≡ S.bytes source)
-            × HasRisen (S.failures source) (S.failures after))
-            ⊎ ((streams (S.bytes source)).open_fault ≡ Some (fault_of e))) }
+        ensures file { IfOk result (λ p. IsOpened S.bytes S.failures source p) }
+        ensures err { IfErr result (λ e. IsNotOpened S.bytes S.failures source e) }
     {
         let container = open_msf(alloc, source)?;
         Ok(PDB { container })
@@ -95,8 +89,8 @@ impl<'s, S: Source + Drop> PDB<'s, S> {
         index: StreamIndex,
     ) -> Result<Option<Stream<'s>>>
         requires { T.bytes source.old ≡ S.bytes self.now }
-        ensures { AnswersFrom T.bytes T.failures source.old source.new (λ s. s) result
-            (stream_if_named (streams (T.bytes source.old)) index.0) }
+        ensures { FileGives T.bytes T.failures source.old source.new (λ s. s) result
+            (λ s. stream_if_named s index.0) }
     {
         if index.is_none() {
             return Ok(None);
@@ -111,8 +105,8 @@ impl<'s, S: Source + Drop> PDB<'s, S> {
     /// Those of reading a stream ([`PDB::raw_stream`]); `UnexpectedEof` where it is short.
     #[tactic(auto, using(pdb_container::proofs::Outside::outside_alone), unfolding(crate::specs::DatabaseCalls::information, crate::specs::Shared::shared))]
     pub fn pdb_information(&mut self, alloc: Global) -> Result<PDBInformation<'s>>
-        ensures { AnswersFrom S.bytes S.failures self.old self.new (λ i. i) result
-            (information (shared (streams (S.bytes self.old)))) }
+        ensures { FileGives S.bytes S.failures self.old self.new (λ i. i) result
+            (λ s. information (shared s)) }
     {
         let stream = self.stream(alloc, 1)?;
         PDBInformation::parse(stream)
@@ -125,8 +119,8 @@ impl<'s, S: Source + Drop> PDB<'s, S> {
     /// `UnimplementedFeature` for a header of another kind.
     #[tactic(auto, using(pdb_container::proofs::Outside::outside_alone), unfolding(crate::specs::DatabaseCalls::debug_information, crate::specs::Shared::shared))]
     pub fn debug_information(&mut self, alloc: Global) -> Result<DebugInformation<'s>>
-        ensures { AnswersFrom S.bytes S.failures self.old self.new (λ d. d) result
-            (debug_information (shared (streams (S.bytes self.old)))) }
+        ensures { FileGives S.bytes S.failures self.old self.new (λ d. d) result
+            (λ s. debug_information (shared s)) }
     {
         let stream = self.stream(alloc, 3)?;
         DebugInformation::parse(stream)
@@ -139,8 +133,8 @@ impl<'s, S: Source + Drop> PDB<'s, S> {
     /// header.
     #[tactic(auto, using(pdb_container::proofs::Outside::outside_alone), unfolding(crate::specs::DatabaseCalls::types, crate::specs::Shared::shared))]
     pub fn type_information(&mut self, alloc: Global) -> Result<TypeInformation<'s>>
-        ensures { AnswersFrom S.bytes S.failures self.old self.new (λ t. t) result
-            (types (shared (streams (S.bytes self.old)))) }
+        ensures { FileGives S.bytes S.failures self.old self.new (λ t. t) result
+            (λ s. types (shared s)) }
     {
         let stream = self.stream(alloc, 2)?;
         ItemInformation::parse(stream)
@@ -153,8 +147,8 @@ impl<'s, S: Source + Drop> PDB<'s, S> {
     /// header.
     #[tactic(auto, using(pdb_container::proofs::Outside::outside_alone), unfolding(crate::specs::DatabaseCalls::ids, crate::specs::Shared::shared))]
     pub fn id_information(&mut self, alloc: Global) -> Result<IdInformation<'s>>
-        ensures { AnswersFrom S.bytes S.failures self.old self.new (λ t. t) result
-            (ids (shared (streams (S.bytes self.old)))) }
+        ensures { FileGives S.bytes S.failures self.old self.new (λ t. t) result
+            (λ s. ids (shared s)) }
     {
         let stream = self.stream(alloc, 4)?;
         ItemInformation::parse(stream)
@@ -168,8 +162,8 @@ impl<'s, S: Source + Drop> PDB<'s, S> {
     /// `IoError` past the file's end, and where the source failed; `OutOfMemory`.
     #[tactic(auto, unfolding(crate::specs::Streams::if_named))]
     pub fn raw_stream(&mut self, alloc: Global, index: StreamIndex) -> Result<Option<Stream<'s>>>
-        ensures { AnswersFrom S.bytes S.failures self.old self.new (λ s. s) result
-            (stream_if_named (streams (S.bytes self.old)) index.0) }
+        ensures { FileGives S.bytes S.failures self.old self.new (λ s. s) result
+            (λ s. stream_if_named s index.0) }
     {
         if index.is_none() {
             return Ok(None);
@@ -185,8 +179,8 @@ impl<'s, S: Source + Drop> PDB<'s, S> {
     /// whole; those of reading a stream.
     #[tactic(auto, using(pdb_container::proofs::Outside::outside_alone, pdb_container::proofs::Outside::outside_earlier, pdb_container::proofs::Outside::outside_later), unfolding(crate::specs::DatabaseCalls::named_stream, crate::specs::DatabaseCalls::information, crate::specs::Shared::shared, crate::specs::Shared::named, crate::specs::Shared::named_number))]
     pub fn named_stream(&mut self, alloc: Global, name: &[u8]) -> Result<Stream<'s>>
-        ensures { AnswersFrom S.bytes S.failures self.old self.new (λ s. s) result
-            (named_stream (streams (S.bytes self.old)) name.now) }
+        ensures { FileGives S.bytes S.failures self.old self.new (λ s. s) result
+            (λ s. named_stream s name.now) }
     {
         let information = self.pdb_information(alloc)?;
         let names = information.stream_names(alloc)?;
@@ -201,8 +195,8 @@ impl<'s, S: Source + Drop> PDB<'s, S> {
     /// `UnexpectedEof` where it isn't whole.
     #[tactic(auto, using(pdb_container::proofs::Outside::outside_alone), unfolding(crate::specs::DatabaseCalls::names, crate::specs::DatabaseCalls::named_stream, crate::specs::Shared::shared))]
     pub fn string_table(&mut self, alloc: Global) -> Result<StringTable<'s>>
-        ensures { AnswersFrom S.bytes S.failures self.old self.new (λ t. t) result
-            (names (shared (streams (S.bytes self.old)))) }
+        ensures { FileGives S.bytes S.failures self.old self.new (λ t. t) result
+            (λ s. names (shared s)) }
     {
         let stream = self.named_stream(alloc, b"/names")?;
         StringTable::parse(stream)
@@ -214,8 +208,8 @@ impl<'s, S: Source + Drop> PDB<'s, S> {
     /// Those of [`PDB::debug_information`], and of [`PDB::global_symbols_by`].
     #[tactic(auto, using(pdb_container::proofs::Outside::outside_earlier, pdb_container::proofs::Outside::outside_later, crate::proofs::SharedSteps::symbols_read), unfolding(crate::specs::DatabaseCalls::global_symbols))]
     pub fn global_symbols(&mut self, alloc: Global) -> Result<SymbolTable<'s>>
-        ensures { AnswersFrom S.bytes S.failures self.old self.new (λ s. s) result
-            (global_symbols (shared (streams (S.bytes self.old)))) }
+        ensures { FileGives S.bytes S.failures self.old self.new (λ s. s) result
+            (λ s. global_symbols (shared s)) }
     {
         let debug_information = self.debug_information(alloc)?;
         self.global_symbols_by(alloc, &debug_information)
@@ -231,9 +225,8 @@ impl<'s, S: Source + Drop> PDB<'s, S> {
         alloc: Global,
         debug_information: &DebugInformation<'_>,
     ) -> Result<SymbolTable<'s>>
-        ensures { AnswersFrom S.bytes S.failures self.old self.new (λ s. s) result
-            (global_symbols_by debug_information.now.symbol_records_stream
-            ((streams (S.bytes self.old)).at debug_information.now.symbol_records_stream)) }
+        ensures { DBIGives S.bytes S.failures self.old self.new debug_information.now (λ s. s)
+            result symbols_in }
     {
         let index = debug_information.symbol_records_stream();
         match self.raw_stream(alloc, index)? {
@@ -253,8 +246,8 @@ impl<'s, S: Source + Drop> PDB<'s, S> {
         alloc: Global,
         module: &Module<'_>,
     ) -> Result<Option<ModuleInfo<'s>>>
-        ensures { AnswersFrom S.bytes S.failures self.old self.new (λ m. m) result
-            (module_info (streams (S.bytes self.old)) «module».now) }
+        ensures { FileGives S.bytes S.failures self.old self.new (λ m. m) result
+            (λ s. module_info s «module».now) }
     {
         match self.raw_stream(alloc, module.stream())? {
             None => Ok(None),
@@ -270,8 +263,8 @@ impl<'s, S: Source + Drop> PDB<'s, S> {
     /// that isn't whole.
     #[tactic(auto, using(pdb_container::proofs::Outside::outside_earlier, pdb_container::proofs::Outside::outside_later, crate::proofs::SharedSteps::sections_read), unfolding(crate::specs::DatabaseCalls::sections))]
     pub fn sections(&mut self, alloc: Global) -> Result<Option<Vec<ImageSectionHeader>>>
-        ensures { AnswersFrom S.bytes S.failures self.old self.new (option_map (λ v. v.items))
-            result (sections (shared (streams (S.bytes self.old)))) }
+        ensures { FileGives S.bytes S.failures self.old self.new listed result
+            (λ s. sections (shared s)) }
     {
         let debug_information = self.debug_information(alloc)?;
         self.sections_by(alloc, &debug_information)
@@ -285,8 +278,8 @@ impl<'s, S: Source + Drop> PDB<'s, S> {
     /// `InvalidStreamLength`.
     #[tactic(auto, using(pdb_container::proofs::Outside::outside_earlier, pdb_container::proofs::Outside::outside_later, crate::proofs::SharedSteps::address_map_read), unfolding(crate::specs::DatabaseCalls::address_map))]
     pub fn address_map(&mut self, alloc: Global) -> Result<AddressMap<'s>>
-        ensures { AnswersFrom S.bytes S.failures self.old self.new (λ m. m) result
-            (address_map (shared (streams (S.bytes self.old)))) }
+        ensures { FileGives S.bytes S.failures self.old self.new (λ m. m) result
+            (λ s. address_map (shared s)) }
     {
         let debug_information = self.debug_information(alloc)?;
         self.address_map_by(alloc, &debug_information)
@@ -295,8 +288,8 @@ impl<'s, S: Source + Drop> PDB<'s, S> {
     /// The bytes of a stream.
     #[tactic(auto, unfolding(crate::specs::Streams::streams))]
     fn stream(&mut self, alloc: Global, number: u32) -> Result<Stream<'s>>
-        ensures { AnswersFrom S.bytes S.failures self.old self.new (λ s. s) result
-            ((streams (S.bytes self.old)).at number) }
+        ensures { FileGives S.bytes S.failures self.old self.new (λ s. s) result
+            (λ s. s.at number) }
     {
         self.container.get(alloc, number, None)
     }
@@ -310,8 +303,8 @@ impl<'s, S: Source + Drop> PDB<'s, S> {
         number: u32,
     ) -> Result<Stream<'s>>
         requires { T.bytes source.old ≡ S.bytes self.now }
-        ensures { AnswersFrom T.bytes T.failures source.old source.new (λ s. s) result
-            ((streams (T.bytes source.old)).at number) }
+        ensures { FileGives T.bytes T.failures source.old source.new (λ s. s) result
+            (λ s. s.at number) }
     {
         self.container.get_from(source, alloc, number)
     }
@@ -325,8 +318,8 @@ impl<'s, S: Source + Drop> PDB<'s, S> {
         place: usize,
     ) -> Result<Option<Stream<'s>>>
         requires { place ≤ 10 }
-        ensures { AnswersFrom S.bytes S.failures self.old self.new (λ s. s) result
-            (optional_stream (streams (S.bytes self.old)) debug_information.now place) }
+        ensures { DBIGives S.bytes S.failures self.old self.new debug_information.now (λ s. s)
+            result (named_at place) }
     {
         let index = debug_information.optional_stream(place)?;
         self.raw_stream(alloc, index)
@@ -343,9 +336,8 @@ impl<'s, S: Source + Drop> PDB<'s, S> {
         alloc: Global,
         debug_information: &DebugInformation<'_>,
     ) -> Result<Option<Vec<ImageSectionHeader>>>
-        ensures { AnswersFrom S.bytes S.failures self.old self.new (option_map (λ v. v.items))
-            result
-            (sections_by (optional_stream (streams (S.bytes self.old)) debug_information.now)) }
+        ensures { DBIGives S.bytes S.failures self.old self.new debug_information.now listed
+            result sections_in }
     {
         let stream = self.optional_stream(alloc, debug_information, SECTION_HEADERS)?;
         section_headers_in(alloc, stream)
@@ -358,10 +350,8 @@ impl<'s, S: Source + Drop> PDB<'s, S> {
         alloc: Global,
         debug_information: &DebugInformation<'_>,
     ) -> Result<Option<Vec<ImageSectionHeader>>>
-        ensures { AnswersFrom S.bytes S.failures self.old self.new (option_map (λ v. v.items))
-            result
-            (original_sections_by
-            (optional_stream (streams (S.bytes self.old)) debug_information.now)) }
+        ensures { DBIGives S.bytes S.failures self.old self.new debug_information.now listed
+            result originals_in }
     {
         let stream = self.optional_stream(alloc, debug_information, ORIGINAL_SECTION_HEADERS)?;
         section_headers_in(alloc, stream)
@@ -378,8 +368,8 @@ impl<'s, S: Source + Drop> PDB<'s, S> {
         alloc: Global,
         debug_information: &DebugInformation<'_>,
     ) -> Result<AddressMap<'s>>
-        ensures { AnswersFrom S.bytes S.failures self.old self.new (λ m. m) result
-            (address_map_by (optional_stream (streams (S.bytes self.old)) debug_information.now)) }
+        ensures { DBIGives S.bytes S.failures self.old self.new debug_information.now (λ m. m)
+            result address_map_in }
     {
         let image = self.sections_by(alloc, debug_information)?;
         let image = image.unwrap_or(Vec::new(alloc));
@@ -395,9 +385,8 @@ impl<'s, S: Source + Drop> PDB<'s, S> {
         image: Vec<ImageSectionHeader>,
         original: Option<Vec<ImageSectionHeader>>,
     ) -> Result<AddressMap<'s>>
-        ensures { AnswersFrom S.bytes S.failures self.old self.new (λ m. m) result
-            (map_with (optional_stream (streams (S.bytes self.old)) debug_information.now)
-            image.items (option_map (λ v. v.items) original)) }
+        ensures { DBIGives S.bytes S.failures self.old self.new debug_information.now (λ m. m)
+            result (map_in image.items (listed original)) }
     {
         match original {
             None => Ok(AddressMap::new(alloc, None, image, None, None)?),
@@ -414,9 +403,8 @@ impl<'s, S: Source + Drop> PDB<'s, S> {
         image: Vec<ImageSectionHeader>,
         original: Vec<ImageSectionHeader>,
     ) -> Result<AddressMap<'s>>
-        ensures { AnswersFrom S.bytes S.failures self.old self.new (λ m. m) result
-            (map_behind (optional_stream (streams (S.bytes self.old)) debug_information.now)
-            image.items original.items) }
+        ensures { DBIGives S.bytes S.failures self.old self.new debug_information.now (λ m. m)
+            result (map_in image.items (Some original.items)) }
     {
         let to_source = self.optional_stream(alloc, debug_information, OMAP_TO_SOURCE)?;
         let to_original = omap_in(alloc, to_source)?;
@@ -431,8 +419,7 @@ fn section_headers_in(
     alloc: Global,
     stream: Option<Stream<'_>>,
 ) -> Result<Option<Vec<ImageSectionHeader>>>
-    ensures { Gives (option_map (λ v. v.items)) ⊥ result
-        (read_if_there section_headers_of stream.entry) }
+    ensures { Gives listed ⊥ result (read_if_there section_headers_of stream.entry) }
 {
     match stream {
         None => Ok(None),
@@ -442,7 +429,7 @@ fn section_headers_in(
 
 /// The records of a map in a stream, if it is there.
 fn omap_in(alloc: Global, stream: Option<Stream<'_>>) -> Result<Option<Vec<OMAPRecord>>>
-    ensures { Gives (option_map (λ v. v.items)) ⊥ result (read_if_there omap_of stream.entry) }
+    ensures { Gives listed ⊥ result (read_if_there omap_of stream.entry) }
 {
     match stream {
         None => Ok(None),

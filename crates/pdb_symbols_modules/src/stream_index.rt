@@ -1,8 +1,8 @@
 //! Stream indices: numbers of streams.
 
 ghost use Rattle.std.specs.Prelude.{◌≡◌, ◌==◌};
-ghost use Rattle.pdb_container.specs.SourceAnswers.{AnswersFrom};
-ghost use Rattle.pdb_symbols_modules.specs.Streams.{streams, stream_if_named};
+ghost use Rattle.pdb_symbols_modules.specs.DatabaseAnswers.{FileGives};
+ghost use Rattle.pdb_symbols_modules.specs.Streams.{stream_if_named};
 
 use crate::pdb::PDB;
 use pdb_container::{Result, Source, Stream};
@@ -29,8 +29,8 @@ impl StreamIndex {
         alloc: Global,
         pdb: &mut PDB<'s, S>,
     ) -> Result<Option<Stream<'s>>>
-        ensures { AnswersFrom S.bytes S.failures pdb.old pdb.new (λ s. s) result
-            (stream_if_named (streams (S.bytes pdb.old)) self.0) }
+        ensures { FileGives S.bytes S.failures pdb.old pdb.new (λ s. s) result
+            (λ s. stream_if_named s self.0) }
     {
         pdb.raw_stream(alloc, self)
     }

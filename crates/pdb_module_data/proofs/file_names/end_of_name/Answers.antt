@@ -14,4 +14,4 @@ pub returns-in-Some : goal.returns-in-Some
 returns-in-Some c = λ names are.
     let begun = rw c.from.ensures at c.count_begun-number.ensures.begun in
     let ends = name_ends names c.args.next_names.now c.args.offset c.count_begun-number.result.0 c.in-Some.next are begun (sym c.in-Some.ensures) in
-    (omega (arith, ends.from), omega (arith, ends.from, ends.within), ends.name)
+    record { from = omega (arith, ends.from); within = omega (arith, ends.from, ends.within); name = ends.name }

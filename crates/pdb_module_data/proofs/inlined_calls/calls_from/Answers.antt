@@ -1,8 +1,8 @@
 use Rattle.std.proofs.Common.{◌≡◌, ◌∷◌, [], ◌++◌, Some, sym, ap, ◌∙◌, arith}
 use Rattle.std.specs.Prelude.{slice_get}
 use Rattle.std.specs.List.{find, flat_map}
-use Rattle.pdb_indices.specs.declared.index.IdIndex.{IdIndex}
-use Rattle.pdb_inlinees.specs.InlinedRows.{covers}
+use Rattle.pdb_container.specs.declared.index.IdIndex.{IdIndex}
+use Rattle.pdb_lines.specs.InlinedRows.{covers}
 use Rattle.pdb_module_data.specs.declared.brief_sites.BriefSite.{BriefSite}
 use Rattle.pdb_module_data.specs.InlinedCalls.{call_by, calls_of, chain, chain_at, has_length}
 use Rattle.pdb_module_data.proofs.BriefSteps.{site_at, many_briefs, calls_next}
@@ -31,14 +31,14 @@ loop-next-preserved c =
       in_range = λ j e. (
           let below = parent_in_range w.sites k j f.site w.nested f.there (sym parent ∙ e) in
           omega (arith, many_briefs sites w.sites w.is));
-      rest = λ whole lines nested is same cut. (
+      rest = λ whole lines is same cut nested. (
           let g = site_at sites whole k b is c.site_numbered-site.ensures in
           let s = g.site in
           let next : c.parent_of-next.result ≡ s.parent = c.parent_of-next.ensures ∙ ap (λ (x : BriefSite). x.parent) g.is in
           let calls = calls_of lines c.args.place in
           let all = flat_map (λ n. calls (slice_get whole n)) (chain whole c.args.number) in
           let rest : c.loop-next.calls.items ++ flat_map (λ n. calls (slice_get whole n)) (chain_at whole (Some k)) ≡ all =
-          ap (λ o. c.loop-next.calls.items ++ flat_map (λ n. calls (slice_get whole n)) (chain_at whole o)) (sym c.in-Some.is) ∙ v.rest whole lines nested is same cut in
+          ap (λ o. c.loop-next.calls.items ++ flat_map (λ n. calls (slice_get whole n)) (chain_at whole o)) (sym c.in-Some.is) ∙ v.rest whole lines is same cut nested in
           let kept = kept_at c.args.of_sites.now.rows.items c.args.of_sites.now.starts.items whole lines k s same cut g.there in
           let found = find (λ row. covers row c.args.place) (lines s.call) in
           let long = find has_length (lines s.call) in

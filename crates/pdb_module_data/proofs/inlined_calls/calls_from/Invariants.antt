@@ -1,11 +1,7 @@
-use Rattle.std.proofs.Common.{◌≡◌, ℕ, ◌<◌, List, ◌++◌, Some, length, map}
+use Rattle.std.proofs.Common.{◌≡◌, ℕ, ◌<◌, ◌++◌, Some, length}
 use Rattle.std.specs.Prelude.{slice_get}
 use Rattle.std.specs.List.{flat_map}
-use Rattle.pdb_subsections.specs.declared.line_info.LineInfo.{LineInfo}
-use Rattle.pdb_symbol_records.specs.Forms.{InlineSiteForm}
-use Rattle.pdb_module_data.specs.BriefSites.{brief_of}
-use Rattle.pdb_module_data.specs.Forest.{Site}
-use Rattle.pdb_module_data.specs.InlinePieces.{rows_of_sites, starts_of_sites}
+use Rattle.pdb_module_data.specs.BriefSites.{IfKept}
 use Rattle.pdb_module_data.specs.InlinedCalls.{calls_of, chain, chain_at, IsNested}
 use Rattle.pdb_module_data.proofs.ChainSteps.{steps_of}
 use Rattle.pdb_module_data.proofs.inlined_calls.calls_from.Given as goal
@@ -15,8 +11,8 @@ abbrev pub invariant-loop-next : goal.invariant-loop-next
 invariant-loop-next l =
     record {
       in_range : (k : ℕ) → l.next ≡ Some k → k < length l.sites;
-      rest : (whole : List Site) (lines : InlineSiteForm → List LineInfo) → IsNested whole → l.sites ≡ map brief_of whole → l.of_sites.rows.items ≡ rows_of_sites lines whole → l.of_sites.starts.items ≡ starts_of_sites lines 0 whole
-          → l.calls.items ++ flat_map (λ k. calls_of lines l.place (slice_get whole k)) (chain_at whole l.next) ≡ flat_map (λ k. calls_of lines l.place (slice_get whole k)) (chain whole l.number);
+      rest : IfKept l.sites l.of_sites (λ lines whole. IsNested whole
+          → l.calls.items ++ flat_map (λ k. calls_of lines l.place (slice_get whole k)) (chain_at whole l.next) ≡ flat_map (λ k. calls_of lines l.place (slice_get whole k)) (chain whole l.number));
     }
 
 abbrev pub decreases-loop-next : goal.decreases-loop-next

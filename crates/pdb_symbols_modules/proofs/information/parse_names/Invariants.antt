@@ -1,6 +1,6 @@
 use Rattle.std.specs.Prelude.{◌≡◌, ◌-◌}
 use Rattle.pdb_container.specs.Buffer.{rest}
-use Rattle.pdb_indices.specs.RecordFields.{many_at}
+use Rattle.pdb_container.specs.RecordFields.{many_at}
 use Rattle.pdb_symbols_modules.specs.Information.{stream_name_at}
 use Rattle.pdb_symbols_modules.proofs.NameLemmas.{names_front}
 use Rattle.pdb_symbols_modules.proofs.information.parse_names.Given as goal

@@ -12,7 +12,7 @@ returns-in-None-clause-count g c =
     let s = c.args.self.now in
     file_run_by_holder s.parts (scope_in g.P.ModuleProvider.provided s) c.args.place c.args.limit
     c.to_next_shared_bound.result None c.requires
-    (sym c.in-None.is ∙ c.holder.ensures
+    (sym c.in-None.is ∙ c.holding_contribution.ensures
     ∙ ap (λ s. holder s.parts.contributions c.args.place) c.self.view_is)
     (c.to_next_shared_bound.ensures
     ∙ ap (λ s. up_to_next (bounds_near s.parts [] c.args.place) (c.args.place).offset c.args.limit)
@@ -24,7 +24,7 @@ returns-in_ok-found-in-Some-clause-file g c =
     let s = c.args.self.now in
     ap Ok (run_file s.parts (scope_in g.P.ModuleProvider.provided s) c.args.place c.args.limit
     c.in-Some.contribution c.in_ok-found-in-Some.found
-    (sym c.in-Some.is ∙ c.holder.ensures
+    (sym c.in-Some.is ∙ c.holding_contribution.ensures
     ∙ ap (λ s. holder s.parts.contributions c.args.place) c.self.view_is)
     c.in_ok-found-in-Some.ensures.run)
 
@@ -33,6 +33,6 @@ returns-in_ok-found-in-Some-clause-count g c =
     let s = c.args.self.now in
     run_count s.parts (scope_in g.P.ModuleProvider.provided s) c.args.place c.args.limit
     c.in-Some.contribution c.in_ok-found-in-Some.found c.requires
-    (sym c.in-Some.is ∙ c.holder.ensures
+    (sym c.in-Some.is ∙ c.holding_contribution.ensures
     ∙ ap (λ s. holder s.parts.contributions c.args.place) c.self.view_is)
     c.in_ok-found-in-Some.ensures.run

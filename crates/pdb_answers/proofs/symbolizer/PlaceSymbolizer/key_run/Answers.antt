@@ -11,7 +11,7 @@ returns-in-None-clause-count g c =
     let s = c.args.self.now in
     run_by_holder s.parts (scope_in g.P.ModuleProvider.provided s) c.args.place c.args.limit
     c.to_next_shared_bound.result None c.requires
-    (sym c.in-None.is ∙ c.holder.ensures
+    (sym c.in-None.is ∙ c.holding_contribution.ensures
     ∙ ap (λ s. holder s.parts.contributions c.args.place) c.self.view_is)
     (c.to_next_shared_bound.ensures
     ∙ ap (λ s. up_to_next (bounds_near s.parts [] c.args.place) (c.args.place).offset c.args.limit)
@@ -22,6 +22,6 @@ returns-in-Some-clause-count g c =
     let s = c.args.self.now in
     run_if_ok s.parts (scope_in g.P.ModuleProvider.provided s) c.args.place c.args.limit
     (Some c.in-Some.contribution) c.key_run_at.result c.requires
-    (sym c.in-Some.is ∙ c.holder.ensures
+    (sym c.in-Some.is ∙ c.holding_contribution.ensures
     ∙ ap (λ s. holder s.parts.contributions c.args.place) c.self.view_is)
     c.key_run_at.ensures.count

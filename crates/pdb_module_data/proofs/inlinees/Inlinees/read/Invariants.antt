@@ -1,7 +1,7 @@
 use Rattle.std.specs.Prelude.{◌≡◌, length, option_map}
 use Rattle.std.specs.BTreeMap.{get}
 use Rattle.std.specs.Ordering.{nat_cmp}
-use Rattle.pdb_inlinees.specs.Inlinee.{inlined_function}
+use Rattle.pdb_lines.specs.Inlinee.{inlined_function}
 use Rattle.pdb_module_data.specs.InlinedCalls.{inlinees_by_id}
 use Rattle.pdb_module_data.proofs.InlineeSteps.{given_left}
 use Rattle.pdb_module_data.proofs.inlinees.Inlinees.read.Given as goal

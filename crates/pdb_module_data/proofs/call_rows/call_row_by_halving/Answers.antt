@@ -1,6 +1,6 @@
 use Rattle.std.proofs.Common.{◌∙◌, true, false, sym}
 use Rattle.pdb_module_data.proofs.CallRowSteps.{apart_ascend, none_halved, row_missing, row_tested}
-use Rattle.pdb_module_data.proofs.call_rows.row_by_halving.Goals as goal
+use Rattle.pdb_module_data.proofs.call_rows.call_row_by_halving.Goals as goal
 
 pub count_begun-count-requires : goal.count_begun-count-requires
 count_begun-count-requires c = apart_ascend 0 c.args.rows.now c.requires

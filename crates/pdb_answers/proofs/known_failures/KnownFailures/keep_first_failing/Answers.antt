@@ -3,7 +3,7 @@ use Rattle.pdb_frames.specs.ChosenSeen.{chosen_seen}
 use Rattle.pdb_answers.specs.declared.known_failures.Asked.{Asked}
 use Rattle.pdb_answers.specs.declared.known_failures.KnownFailure.{KnownFailure}
 use Rattle.pdb_answers.proofs.KnownSteps.{known_now}
-use Rattle.pdb_answers.proofs.known_failures.KnownFailures.keep.Goals as goal
+use Rattle.pdb_answers.proofs.known_failures.KnownFailures.keep_first_failing.Goals as goal
 
 -- what is stored is the part that fails in the functions like the chosen one
 pub returns : goal.returns
