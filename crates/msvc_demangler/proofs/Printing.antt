@@ -9,7 +9,8 @@ use Rattle.msvc_demangler.specs.declared.printer.Piece.{Piece}
 use Rattle.msvc_demangler.specs.declared.printer.Piece.TheVariants.{Text as Printed, Word}
 use Rattle.msvc_demangler.specs.declared.printer.Printer.{Printer}
 use Rattle.msvc_demangler.specs.declared.tree.Tree.{Tree}
-use Rattle.msvc_demangler.specs.Pieces.{Prints, piece_text, before, last_first, in_order}
+use Rattle.msvc_demangler.specs.Pieces.{Prints, SamePieces, piece_text, before, last_first, in_order}
+use Rattle.msvc_demangler.specs.Literals.{enclosed}
 use Rattle.msvc_demangler.specs.Words.{Text}
 
 before_assoc : (a b c : Option Text) → before (before a b) c ≡ before a (before b c)
@@ -69,7 +70,7 @@ module _ (tree : Tree) where
   -- three pieces that are planned
   pub three_in_order : (b a : Bor (List ℕ)) (span : Span) (planned : List Piece)
       → planned ≡ Word b ∷ Printed span ∷ Word a ∷ []
-      → in_order tree planned ≡ Some ((b.now ++ text_at tree.texts.items span) ++ a.now)
+      → in_order tree planned ≡ Some (enclosed tree.texts.items b span a)
   unfolding in_order
   three_in_order b a span planned e =
       ap (in_order tree) e
@@ -128,9 +129,7 @@ piece_has_text text whole after (Some t) is = (t, refl)
 -- bytes that are printed where nothing is planned
 pub pushed : (p q : Printer) (bytes text : Text) → p.planned.items ≡ []
     → q.text.items ≡ p.text.items ++ bytes
-    → (q.planned.items ≡ p.planned.items) × (q.pieces.items ≡ p.pieces.items)
-    × (q.tree.now ≡ p.tree.now)
-    → bytes ≡ text → Prints text p q
+    → SamePieces p q → bytes ≡ text → Prints text p q
 pushed p q bytes text empty e same is = (
   ap (option_map (λ rest. q.text.items ++ rest))
       (none_planned q.tree.now q.planned.items (same.0 ∙ empty))

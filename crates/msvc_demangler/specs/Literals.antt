@@ -1,14 +1,18 @@
 -- String literals: what stands after ??_C, and the text that it stands for.
-use Rattle.std.specs.Prelude.{IsSome}
+use Rattle.std.specs.Prelude.{IfOk, IsSome, IsTrue, OnOk, Result}
 use Rattle.std.specs.Prelude.{◌≡◌, ℕ, zero, suc, ◌+◌, ◌-◌, ◌*◌, ◌/◌, ◌%◌, ◌==◌, ◌&&◌, ◌||◌}
 use Rattle.std.specs.Prelude.{Bool, if◌then◌else◌, List, [], ◌∷◌, ◌++◌, Option, None, Some}
 use Rattle.std.specs.Prelude.{codes, length, nat_le, nat_lt}
 use Rattle.std.specs.Prelude.{take, drop, not, position, slice_index, option_map, option_and_then}
-use Rattle.std.specs.List.{flat_map, remove}
+use Rattle.std.specs.Borrow.{Bor}
+use Rattle.std.specs.Global.{Vec}
+use Rattle.std.specs.List.{flat_map, remove, slice_get}
 use Rattle.std.specs.Int.{from_le_bytes, w32}
 use Rattle.msvc_demangler.specs.declared.literals.Quotes.{Quotes}
 use Rattle.msvc_demangler.specs.declared.numbers.Number.{Number}
 use Rattle.msvc_demangler.specs.declared.tree.Node.{Node}
+use Rattle.msvc_demangler.specs.declared.tree.Span.{Span}
+use Rattle.msvc_demangler.specs.declared.tree.Tree.{Tree}
 use Rattle.msvc_demangler.specs.declared.tree.Node.TheVariants.{Symbol}
 use Rattle.msvc_demangler.specs.declared.tree.Symbol.TheVariants.{Text as Quoted}
 use Rattle.msvc_demangler.specs.Bytes.{begins}
@@ -117,15 +121,47 @@ literal_of text =
     then None
     else option_and_then (string_of (slice_index text 2)) (sized_of (drop 3 text))
 
+-- the text of the string literal that stands after ??_C
+abbrev pub literal_text : List ℕ → Option Text
+literal_text text = option_map (λ l. l.0) (literal_of text)
+
+-- characters that were read, and what comes after
+abbrev pub read_characters : {X : Type 0} → Option (Vec X × Bor (List ℕ)) → Option (List X × List ℕ)
+read_characters o = option_map (λ r. (r.0.items, r.1.now)) o
+
 -- the text of a literal: what stands before, the characters, and what stands after
 abbrev pub quoted : Quotes → Text → Text
 quoted quotes text = (quotes.before.now ++ text) ++ quotes.after.now
 
+-- characters are appended to an empty text; with what stands about them they are a string
+abbrev pub AppendsQuoted : {E : Type 0} → Text → Vec ℕ → Vec ℕ → Result Quotes E → Type 0
+AppendsQuoted string old new result =
+    old.items ≡ [] → IfOk result (λ quotes. quoted quotes new.items ≡ string)
+
+-- a string at the head of a text is appended in this way, and what comes after it is given
+abbrev pub SplitsString : {E : Type 0} → Option (Text × List ℕ) → Vec ℕ → Vec ℕ
+    → Result (Option (Quotes × Bor (List ℕ))) E → Type 0
+SplitsString string old new result =
+    old.items ≡ []
+    → IfOk result (λ o. option_map (λ r. (quoted r.0 new.items, r.1.now)) o ≡ string)
+
+-- a text of a tree, with what stands before and after it
+abbrev pub enclosed : List ℕ → Bor (List ℕ) → Span → Bor (List ℕ) → Text
+enclosed texts before span after = (before.now ++ text_at texts span) ++ after.now
+
 -- the text of a symbol that is a string literal
 abbrev pub literal_in : List ℕ → Node → Option Text
-literal_in texts (Symbol (Quoted before span after) None) =
-    Some ((before.now ++ text_at texts span) ++ after.now)
+literal_in texts (Symbol (Quoted before span after) None) = Some (enclosed texts before span after)
 literal_in texts _ = None
+
+-- the text of the string literal at a place of a tree
+abbrev pub literal_at : Tree → ℕ → Option Text
+literal_at tree index =
+    option_and_then (literal_in tree.texts.items) (slice_get tree.nodes.items index)
+
+-- the text of the string literal that was handed on last
+abbrev pub handed_literal : Parser → Option Text
+handed_literal p = option_and_then (literal_in p.tree.texts.items) (handed p)
 
 -- a name that is a string literal
 abbrev pub is_literal : List ℕ → Bool
@@ -134,9 +170,32 @@ is_literal name = (slice_index name 0 == 63) && ((slice_index name 1 == 63)
 
 -- the text of a name that is a string literal
 unfoldable pub literal_name : List ℕ → Option Text
-literal_name name = option_map (λ l. l.0) (literal_of (drop 4 name))
+literal_name name = literal_text (drop 4 name)
+
+-- the name of a string literal without its first ?
+abbrev pub is_marked_literal : List ℕ → Bool
+is_marked_literal text = (slice_index text 0 == 63)
+    && ((slice_index text 1 == 95) && (slice_index text 2 == 67))
+
+-- the text of such a name
+abbrev pub marked_literal : List ℕ → Option Text
+marked_literal text = literal_text (drop 3 text)
 
 -- a symbol with a text was handed on, and nothing more is to be read for it
 abbrev pub HandsOn : Option Text → Parser → Parser → Type 0
-HandsOn text p q = (option_and_then (literal_in q.tree.texts.items) (handed q) ≡ text)
-    × SameTasks p q × IsSome text
+HandsOn text p q = (handed_literal q ≡ text) × SameTasks p q × IsSome text
+
+-- what is left is of a kind, and is read: the text that it stands for is handed on
+abbrev pub ReadsAs : {A E : Type 0} → (List ℕ → Bool) → (List ℕ → Option Text) → Parser → Parser
+    → Result A E → Type 0
+ReadsAs is_kind text_of p q result =
+    IsTrue (is_kind p.rest.now) → OnOk result (HandsOn (text_of p.rest.now) p q)
+
+-- a string literal of which nothing was read
+abbrev pub IsUnreadLiteral : Parser → Type 0
+IsUnreadLiteral p = IsTrue (is_literal p.rest.now) × (p.tasks.items ≡ []) × (p.planned.items ≡ [])
+
+-- the symbol at a place of a tree is the string literal that a name is
+abbrev pub IsLiteralAt : List ℕ → Tree → ℕ → Type 0
+IsLiteralAt name tree index =
+    (literal_at tree index ≡ literal_name name) × IsSome (literal_name name)

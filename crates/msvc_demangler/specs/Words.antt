@@ -1,6 +1,7 @@
 -- Words that letters stand for, of types and of functions.
 use Rattle.std.specs.Prelude.{ℕ, ◌==◌, ◌&&◌, ◌||◌, if◌then◌else◌, List, [], Option, None, Some}
 use Rattle.std.specs.Prelude.{codes, drop, length, nat_lt, option_map, slice_index}
+use Rattle.std.specs.Borrow.{Bor}
 
 -- what is printed, as bytes
 abbrev pub Text : Type 0
@@ -39,6 +40,10 @@ later_basic_type b =
 -- a word, and what comes after it
 abbrev pub before : List ℕ → Option Text → Option (Text × List ℕ)
 before after word = option_map (λ w. (w, after)) word
+
+-- a word that was read, and what comes after it
+abbrev pub read_word : Option (Bor (List ℕ) × Bor (List ℕ)) → Option (Text × List ℕ)
+read_word o = option_map (λ r. (r.0.now, r.1.now)) o
 
 -- the basic type that a text begins with, and what comes after: $$T for std::nullptr_t, a letter
 -- after _, or a letter

@@ -1,11 +1,11 @@
 //! The text of a decorated name.
 
 ghost use Rattle.std.specs.Prelude.{◌+◌, ◌*◌, ◌≤◌, ◌^◌, IfOk, length};
-ghost use Rattle.std.specs.Prelude.{◌≡◌, ℕ, IsTrue, List, option_and_then};
-ghost use Rattle.std.specs.List.{slice_get};
+ghost use Rattle.std.specs.Prelude.{◌≡◌, IsTrue};
+ghost use Rattle.std.specs.Option.{ForSome};
 ghost use Rattle.std.specs.Vec.{vec_len};
 ghost use Rattle.msvc_demangler.specs.Answer.{IsTextOf, text_length};
-ghost use Rattle.msvc_demangler.specs.Literals.{is_literal, literal_in, literal_name};
+ghost use Rattle.msvc_demangler.specs.Literals.{is_literal, literal_at, literal_name};
 
 use crate::flags::DemangleFlags;
 use crate::parser::Parser;
@@ -67,9 +67,8 @@ fn print(
 ) -> Result<Vec<u8>>
     ensures few { IfOk result (λ text. vec_len text ≤ 2 ^ 20) }
     ensures pieces { pieces.new ≤ 2 ^ 20 }
-    ensures literal { (text : List ℕ) → option_and_then
-        (literal_in parser.now.tree.texts.items) (slice_get parser.now.tree.nodes.items symbol)
-        ≡ Some text → IfOk result (λ printed. printed.items ≡ text) }
+    ensures literal { ForSome (literal_at parser.now.tree symbol)
+        (λ text. IfOk result (λ printed. printed.items ≡ text)) }
 {
     let mut budget = parser.budget;
     let piece = Piece::Whole(symbol, flags);

@@ -1,9 +1,9 @@
 //! Functions: their types, and what the codes of symbols say of them.
 
-ghost use Rattle.std.specs.Prelude.{◌≡◌, IsTrue, OnOk, slice_index};
+ghost use Rattle.std.specs.Prelude.{◌≡◌, IsTrue, OnOk};
 ghost use Rattle.msvc_demangler.specs.Bytes.{is_digit};
 ghost use Rattle.msvc_demangler.specs.Methods.{thunk_access};
-ghost use Rattle.msvc_demangler.specs.References.{referred, types_of};
+ghost use Rattle.msvc_demangler.specs.References.{next_byte, next_type};
 ghost use Rattle.msvc_demangler.specs.Texts.{last_value};
 
 use crate::methods::method_of;
@@ -193,8 +193,8 @@ impl<'n> Parser<'n> {
 
     /// Reads the next parameter, a digit for a type that is remembered, or the end of them.
     fn read_parameter(&mut self, count: usize) -> Result<()>
-        ensures { let first = slice_index self.old.rest.now 0 in IsTrue (is_digit first)
-            → OnOk result (last_value self.new ≡ referred (types_of self.old) first) }
+        ensures { IsTrue (is_digit (next_byte self.old))
+            → OnOk result (last_value self.new ≡ next_type self.old) }
     {
         let rest = self.rest;
         match rest {

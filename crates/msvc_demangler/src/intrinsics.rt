@@ -1,7 +1,8 @@
 //! Symbols that a compiler makes: tables, type information, guards, thunks.
 
-ghost use Rattle.std.specs.Prelude.{◌≡◌, OnOk, drop, option_map, slice_index};
-ghost use Rattle.msvc_demangler.specs.Literals.{HandsOn, literal_of};
+ghost use Rattle.std.specs.Prelude.{◌≡◌, OnOk};
+ghost use Rattle.msvc_demangler.specs.Literals.{HandsOn, ReadsAs, is_marked_literal, literal_text};
+ghost use Rattle.msvc_demangler.specs.Literals.{marked_literal};
 
 use crate::functions::unwritten_signature;
 use crate::parser::Parser;
@@ -31,9 +32,7 @@ impl<'n> Parser<'n> {
 
     /// Reads a symbol after its `?`.
     pub(crate) fn start_intrinsic(&mut self) -> Result<()>
-        ensures { slice_index self.old.rest.now 0 ≡ 63 → slice_index self.old.rest.now 1 ≡ 95
-            → slice_index self.old.rest.now 2 ≡ 67 → OnOk result (HandsOn
-            (option_map (λ l. l.0) (literal_of (drop 3 self.old.rest.now))) self.old self.new) }
+        ensures { ReadsAs is_marked_literal marked_literal self.old self.new result }
     {
         let rest = self.rest;
         match rest {
@@ -45,8 +44,8 @@ impl<'n> Parser<'n> {
     /// Reads a symbol by the letter after its `?_`, and what comes after that: one that a compiler
     /// makes, or else one whose name is an operator.
     fn start_made(&mut self, code: u8, after: &'n [u8]) -> Result<()>
-        ensures { code ≡ 67 → OnOk result (HandsOn
-            (option_map (λ l. l.0) (literal_of after.entry.now)) self.old self.new) }
+        ensures { code ≡ 67
+            → OnOk result (HandsOn (literal_text after.entry.now) self.old self.new) }
     {
         match code {
             b'_' => self.start_initializer_or_guard(after),
@@ -131,8 +130,8 @@ impl<'n> Parser<'n> {
 
     /// Reads a table, a guard, a thunk or a string literal.
     fn start_table(&mut self, code: u8) -> Result<()>
-        ensures { code ≡ 67 → OnOk result (HandsOn
-            (option_map (λ l. l.0) (literal_of self.old.rest.now)) self.old self.new) }
+        ensures { code ≡ 67
+            → OnOk result (HandsOn (literal_text self.old.rest.now) self.old self.new) }
     {
         match code {
             b'7' => self.start_fixed("`vftable'", Task::Table),

@@ -1,16 +1,18 @@
 //! String literals.
 
-ghost use Rattle.std.specs.Prelude.{◌≡◌, ◌++◌, ◌==◌, ◌<◌, ◌≤◌, [], IfOk, IfSome, OnOk, length};
-ghost use Rattle.std.specs.Prelude.{option_and_then, option_map, position};
+ghost use Rattle.std.specs.Prelude.{◌≡◌, ◌++◌, ◌==◌, ◌<◌, ◌≤◌, IfOk, IfSome, OnOk, length};
+ghost use Rattle.std.specs.Prelude.{option_map, position};
 ghost use Rattle.std.specs.Int.{from_le_bytes, w32};
 ghost use Rattle.std.specs.List.{flat_map};
 ghost use Rattle.std.specs.Vec.{vec_len};
 ghost use Rattle.msvc_demangler.specs.Characters.{character_of, written};
-ghost use Rattle.msvc_demangler.specs.Literals.{after_at, but_end, characters_of, ended, joined};
-ghost use Rattle.msvc_demangler.specs.Literals.{literal_in, literal_of, narrow_of};
-ghost use Rattle.msvc_demangler.specs.Literals.{narrow_text, prefix, quoted, sized_of, string_of};
-ghost use Rattle.msvc_demangler.specs.Literals.{suffix, wide_character_of, wide_of, wide_text};
-ghost use Rattle.msvc_demangler.specs.Texts.{SameTasks, handed};
+ghost use Rattle.msvc_demangler.specs.Literals.{AppendsQuoted, SplitsString, after_at, but_end};
+ghost use Rattle.msvc_demangler.specs.Literals.{characters_of, ended, handed_literal, joined};
+ghost use Rattle.msvc_demangler.specs.Literals.{literal_of, literal_text, narrow_of, narrow_text};
+ghost use Rattle.msvc_demangler.specs.Literals.{prefix, quoted, read_characters, sized_of};
+ghost use Rattle.msvc_demangler.specs.Literals.{string_of, suffix, wide_character_of, wide_of};
+ghost use Rattle.msvc_demangler.specs.Literals.{wide_text};
+ghost use Rattle.msvc_demangler.specs.Texts.{SameTasks};
 
 use crate::bytes::byte_at;
 use crate::characters::{character_size, push_character, split_character};
@@ -118,8 +120,7 @@ fn split_wide_character(text: &[u8]) -> Option<(u32, &[u8])>
 /// The bytes of a string before `@`, and what comes after. None if there are more than 128.
 #[tactic(auto, using(crate::proofs::Strings::reading))]
 fn split_bytes(alloc: Global, text: &[u8]) -> Result<Option<(Vec<u8>, &[u8])>, AllocError>
-    ensures are { IfOk result (λ o. option_map (λ r. (r.0.items, r.1.now)) o
-        ≡ characters_of character_of 129 text.now) }
+    ensures are { IfOk result (λ o. read_characters o ≡ characters_of character_of 129 text.now) }
     ensures few { IfOk result (λ o. IfSome o (λ r. vec_len r.0 ≤ 128)) }
 {
     let mut bytes = Vec::new(alloc);
@@ -145,8 +146,8 @@ fn split_wide_characters(
     alloc: Global,
     text: &[u8],
 ) -> Result<Option<(Vec<u32>, &[u8])>, AllocError>
-    ensures { IfOk result (λ o. option_map (λ r. (r.0.items, r.1.now)) o
-        ≡ characters_of wide_character_of (length text.now) text.now) }
+    ensures { IfOk result (λ o.
+        read_characters o ≡ characters_of wide_character_of (length text.now) text.now) }
 {
     let mut characters = Vec::new(alloc);
     let mut rest = text;
@@ -201,8 +202,7 @@ fn push_characters(text: &mut Vec<u8>, characters: &[u32]) -> Result<(), AllocEr
 #[tactic(auto, using(crate::proofs::Strings::character_size_some), unfolding(crate::specs::Literals::narrow_text))]
 fn narrow(text: &mut Vec<u8>, size: u64, bytes: &[u8]) -> Result<Quotes, AllocError>
     requires { length bytes.now ≤ 128 }
-    ensures { text.old.items ≡ []
-        → IfOk result (λ q. quoted q text.new.items ≡ narrow_text size bytes.now) }
+    ensures { AppendsQuoted (narrow_text size bytes.now) text.old text.new result }
 {
     let is_cut = size > bytes.len() as u64;
     let width = character_size(bytes, size);
@@ -235,8 +235,7 @@ fn drop_end(characters: &mut Vec<u32>, size: u64)
 /// Appends the characters of a string of `wchar_t` by the first, and its size in bytes.
 #[tactic(auto, unfolding(crate::specs::Literals::wide_text))]
 fn wide(text: &mut Vec<u8>, size: u64, characters: &mut Vec<u32>) -> Result<Quotes, AllocError>
-    ensures { text.old.items ≡ []
-        → IfOk result (λ q. quoted q text.new.items ≡ wide_text size characters.old.items) }
+    ensures { AppendsQuoted (wide_text size characters.old.items) text.old text.new result }
 {
     drop_end(characters, size);
     push_characters(text, characters.as_slice())?;
@@ -254,9 +253,7 @@ fn split_narrow<'t>(
     size: u64,
     text: &'t [u8],
 ) -> Result<Option<(Quotes, &'t [u8])>, AllocError>
-    ensures { output.old.items ≡ [] → IfOk result (λ o.
-        option_map (λ r. (quoted r.0 output.new.items, r.1.now)) o
-        ≡ narrow_of size text.entry.now) }
+    ensures { SplitsString (narrow_of size text.entry.now) output.old output.new result }
 {
     let Some((bytes, after)) = split_bytes(alloc, text)? else {
         return Ok(None);
@@ -272,9 +269,7 @@ fn split_wide<'t>(
     size: u64,
     text: &'t [u8],
 ) -> Result<Option<(Quotes, &'t [u8])>, AllocError>
-    ensures { output.old.items ≡ [] → IfOk result (λ o.
-        option_map (λ r. (quoted r.0 output.new.items, r.1.now)) o
-        ≡ wide_of size text.entry.now) }
+    ensures { SplitsString (wide_of size text.entry.now) output.old output.new result }
 {
     let Some((mut characters, after)) = split_wide_characters(alloc, text)? else {
         return Ok(None);
@@ -290,9 +285,7 @@ fn split_string<'t>(
     size: u64,
     text: &'t [u8],
 ) -> Result<Option<(Quotes, &'t [u8])>, AllocError>
-    ensures { output.old.items ≡ [] → IfOk result (λ o.
-        option_map (λ r. (quoted r.0 output.new.items, r.1.now)) o
-        ≡ string_of kind (size, text.entry.now)) }
+    ensures { SplitsString (string_of kind (size, text.entry.now)) output.old output.new result }
 {
     if kind == b'0' && size >= 1 {
         return split_narrow(alloc, output, size, text);
@@ -314,9 +307,7 @@ fn split_literal<'t>(
     output: &mut Vec<u8>,
     text: &'t [u8],
 ) -> Result<Option<(Quotes, &'t [u8])>, AllocError>
-    ensures { output.old.items ≡ [] → IfOk result (λ o.
-        option_map (λ r. (quoted r.0 output.new.items, r.1.now)) o
-        ≡ literal_of text.entry.now) }
+    ensures { SplitsString (literal_of text.entry.now) output.old output.new result }
 {
     let [b'@', b'_', kind, after @ ..] = text else {
         return Ok(None);
@@ -330,8 +321,7 @@ fn split_literal<'t>(
 impl<'n> Parser<'n> {
     /// Hands on a string literal.
     fn give_literal(&mut self, quotes: Quotes, text: &[u8]) -> crate::stop::Result<()>
-        ensures text { OnOk result (option_and_then (literal_in self.new.tree.texts.items)
-            (handed self.new) ≡ Some (quoted quotes text.now)) }
+        ensures text { OnOk result (handed_literal self.new ≡ Some (quoted quotes text.now)) }
         ensures rest { self.new.rest.now ≡ self.old.rest.now }
         ensures tasks { SameTasks self.old self.new }
     {
@@ -342,8 +332,7 @@ impl<'n> Parser<'n> {
     /// Reads a string literal after `??_C`: its kind, its size in bytes, its checksum, and its
     /// first bytes.
     pub(crate) fn read_string_literal(&mut self) -> crate::stop::Result<()>
-        ensures text { OnOk result (option_and_then (literal_in self.new.tree.texts.items)
-            (handed self.new) ≡ option_map (λ l. l.0) (literal_of self.old.rest.now)) }
+        ensures text { OnOk result (handed_literal self.new ≡ literal_text self.old.rest.now) }
         ensures rest { OnOk result
             (Some self.new.rest.now ≡ option_map (λ l. l.1) (literal_of self.old.rest.now)) }
         ensures tasks { SameTasks self.old self.new }

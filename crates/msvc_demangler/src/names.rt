@@ -1,9 +1,9 @@
 //! Names: identifiers, templates, local scopes.
 
-ghost use Rattle.std.specs.Prelude.{◌≡◌, IsTrue, OnOk, option_and_then, slice_index};
+ghost use Rattle.std.specs.Prelude.{◌≡◌, IsTrue, OnOk};
 ghost use Rattle.msvc_demangler.specs.Bytes.{is_digit};
-ghost use Rattle.msvc_demangler.specs.References.{name_in, names_of, referred, with_next};
-ghost use Rattle.msvc_demangler.specs.Texts.{handed};
+ghost use Rattle.msvc_demangler.specs.References.{handed_name, names_of, next_byte, next_name};
+ghost use Rattle.msvc_demangler.specs.References.{with_next};
 
 use crate::numbers::{Number, begins_local_scope};
 use crate::operators::{last_operator_of, later_operator_of, operator_of};
@@ -53,9 +53,8 @@ impl<'n> Parser<'n> {
 
     /// Reads an identifier: a digit for one that is remembered, or what its first bytes say.
     fn start_identifier(&mut self, place: Place) -> Result<()>
-        ensures { let first = slice_index self.old.rest.now 0 in IsTrue (is_digit first)
-            → OnOk result (option_and_then (name_in self.new.tree.texts.items) (handed self.new)
-            ≡ referred (names_of self.old) first) }
+        ensures { IsTrue (is_digit (next_byte self.old))
+            → OnOk result (handed_name self.new ≡ next_name self.old) }
     {
         let rest = self.rest;
         match (rest, place) {

@@ -1,11 +1,11 @@
 //! The reading of a name: what is still to be read, what has been, and what may be referred to.
 
-ghost use Rattle.std.specs.Prelude.{◌≡◌, ◌+◌, ◌*◌, ◌≤◌, [], IfOk, IsSome, IsTrue, OnOk};
-ghost use Rattle.std.specs.Prelude.{drop, length, option_and_then};
-ghost use Rattle.std.specs.List.{prefix_len, slice_get};
+ghost use Rattle.std.specs.Prelude.{◌≡◌, ◌+◌, ◌*◌, ◌≤◌, [], IfOk, OnOk, drop, length};
+ghost use Rattle.std.specs.List.{prefix_len};
 ghost use Rattle.std.specs.Result.{result_ok};
 ghost use Rattle.msvc_demangler.specs.References.{is_plain, names_of, next_part};
-ghost use Rattle.msvc_demangler.specs.Literals.{HandsOn, is_literal, literal_in, literal_name};
+ghost use Rattle.msvc_demangler.specs.Literals.{IsLiteralAt, IsUnreadLiteral, ReadsAs};
+ghost use Rattle.msvc_demangler.specs.Literals.{is_literal, literal_name};
 ghost use Rattle.msvc_demangler.specs.Texts.{SameTasks, handed, last_value};
 
 use crate::budget::Budget;
@@ -92,11 +92,8 @@ impl<'n> Parser<'n> {
     /// The name isn't decorated; memory ran out.
     pub(crate) fn read(&mut self, tasks: &mut usize) -> Result<usize>
         ensures few { tasks.new ≤ 32 * (self.old.length + 1) }
-        ensures literal { IsTrue (is_literal self.old.rest.now) → self.old.tasks.items ≡ []
-            → self.old.planned.items ≡ [] → IfOk result (λ index.
-            (option_and_then (literal_in self.new.tree.texts.items)
-            (slice_get self.new.tree.nodes.items index) ≡ literal_name self.old.rest.now)
-            × IsSome (literal_name self.old.rest.now)) }
+        ensures literal { IsUnreadLiteral self.old
+            → IfOk result (IsLiteralAt self.old.rest.now self.new.tree) }
     {
         *tasks = 0;
         self.tasks.push(Task::Symbol)?;
@@ -343,8 +340,7 @@ impl<'n> Parser<'n> {
 
     /// Reads what a task says.
     fn run(&mut self, task: Task) -> Result<()>
-        ensures { IsTrue (is_literal self.old.rest.now) → task ≡ Task.Symbol
-            → OnOk result (HandsOn (literal_name self.old.rest.now) self.old self.new) }
+        ensures { task ≡ Task.Symbol → ReadsAs is_literal literal_name self.old self.new result }
     {
         match task {
             Task::Identifier(_)

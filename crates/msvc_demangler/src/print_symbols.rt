@@ -1,10 +1,8 @@
 //! The printing of symbols.
 
-ghost use Rattle.std.specs.Prelude.{◌≡◌, ℕ, [], ◌++◌, List, OnOk};
-ghost use Rattle.msvc_demangler.specs.Literals.{literal_in};
+ghost use Rattle.msvc_demangler.specs.Literals.{enclosed, literal_in};
 ghost use Rattle.msvc_demangler.specs.declared.tree.Node.{Node};
-ghost use Rattle.msvc_demangler.specs.Pieces.{Prints};
-ghost use Rattle.msvc_demangler.specs.Texts.{text_at};
+ghost use Rattle.msvc_demangler.specs.Pieces.{PrintsFirst, PrintsKnown, texts_of};
 
 use crate::flags::DemangleFlags;
 use crate::printer::{Piece, Printer};
@@ -52,9 +50,8 @@ impl<'t> Printer<'t> {
         name: Option<usize>,
         flags: DemangleFlags,
     ) -> Result<()>
-        ensures { (text : List ℕ) → self.old.planned.items ≡ []
-            → literal_in self.old.tree.now.texts.items (Node.Symbol symbol name) ≡ Some text
-            → OnOk result (Prints text self.old self.new) }
+        ensures { PrintsKnown (literal_in (texts_of self.old) (Node.Symbol symbol name))
+            self.old self.new result }
     {
         match (symbol, name) {
             (Symbol::Text(before, text, after), _) => self.print_literal(before, text, after),
@@ -85,9 +82,8 @@ impl<'t> Printer<'t> {
     /// Plans a string literal.
     #[tactic(auto, using(crate::proofs::Printing::three_in_order))]
     fn print_literal(&mut self, before: &'static str, text: Span, after: &'static str) -> Result<()>
-        ensures { self.old.planned.items ≡ [] → OnOk result (Prints
-            ((before.entry.now ++ text_at self.old.tree.now.texts.items text) ++ after.entry.now)
-            self.old self.new) }
+        ensures { PrintsFirst (enclosed (texts_of self.old) before.entry text after.entry)
+            self.old self.new result }
     {
         self.plan_all(&[Piece::Word(before), Piece::Text(text), Piece::Word(after)])
     }

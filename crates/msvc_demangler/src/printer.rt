@@ -1,12 +1,12 @@
 //! The printing of a tree.
 
 ghost use Rattle.std.specs.Prelude.{◌≡◌, ◌+◌, ◌≤◌, IfOk, OnOk};
-ghost use Rattle.std.specs.Prelude.{ℕ, [], ◌∷◌, ◌++◌, List, option_and_then};
-ghost use Rattle.std.specs.List.{slice_get};
+ghost use Rattle.std.specs.Prelude.{[], ◌∷◌, ◌++◌};
+ghost use Rattle.std.specs.Option.{ForSome};
 ghost use Rattle.std.specs.Vec.{vec_len};
-ghost use Rattle.msvc_demangler.specs.Literals.{literal_in};
-ghost use Rattle.msvc_demangler.specs.Pieces.{Prints, SamePrinted, before, in_order, last_first};
-ghost use Rattle.msvc_demangler.specs.Pieces.{piece_text, whole_text};
+ghost use Rattle.msvc_demangler.specs.Literals.{literal_at};
+ghost use Rattle.msvc_demangler.specs.Pieces.{PrintsAll, PrintsKnown, SamePieces, SamePrinted};
+ghost use Rattle.msvc_demangler.specs.Pieces.{before, piece_text, planned_text, rest_text};
 
 use crate::budget::Budget;
 use crate::flags::{DemangleFlags, FULL_TEXT};
@@ -79,8 +79,8 @@ pub(crate) fn print_tree(
     budget: &mut Budget,
 ) -> Result<Vec<u8>>
     ensures counted { IfOk result (λ text. budget.new.bytes ≡ budget.old.bytes + vec_len text) }
-    ensures text { (text : List ℕ) → piece_text tree.now piece ≡ Some text
-        → IfOk result (λ printed. printed.items ≡ text) }
+    ensures text { ForSome (piece_text tree.now piece)
+        (λ text. IfOk result (λ printed. printed.items ≡ text)) }
 {
     let mut printer = Printer {
         alloc,
@@ -105,8 +105,7 @@ impl<'t> Printer<'t> {
     fn print(&mut self, most: usize, pieces: &mut usize) -> Result<()>
         ensures few { pieces.new ≤ most }
         ensures in_all { OnOk result (pieces.new + vec_len self.new.text ≤ most) }
-        ensures text { (text : List ℕ) → self.old.planned.items ≡ []
-            → whole_text self.old ≡ Some text → OnOk result (self.new.text.items ≡ text) }
+        ensures text { PrintsAll self.old self.new result }
     {
         *pieces = 0;
         for step in 0..most {
@@ -128,9 +127,8 @@ impl<'t> Printer<'t> {
     fn take_over(&mut self) -> Result<()>
         ensures text { self.new.text.items ≡ self.old.text.items }
         ensures planned { OnOk result (self.new.planned.items ≡ []) }
-        ensures pieces { OnOk result (last_first self.new.tree.now self.new.pieces.items
-            ≡ before (last_first self.old.tree.now self.old.pieces.items)
-            (in_order self.old.tree.now self.old.planned.items)) }
+        ensures pieces { OnOk result
+            (rest_text self.new ≡ before (rest_text self.old) (planned_text self.old)) }
     {
         while let Some(piece) = self.planned.pop() {
             self.pieces.push(piece)?;
@@ -179,9 +177,7 @@ impl<'t> Printer<'t> {
     /// Prints a piece, or plans its parts.
     #[tactic(auto, using(crate::proofs::Printing::none_planned))]
     fn run(&mut self, piece: Piece) -> Result<()>
-        ensures { (text : List ℕ) → self.old.planned.items ≡ []
-            → piece_text self.old.tree.now piece ≡ Some text
-            → OnOk result (Prints text self.old self.new) }
+        ensures { PrintsKnown (piece_text self.old.tree.now piece) self.old self.new result }
     {
         match piece {
             Piece::Word(word) => self.push_bytes(word.as_bytes()),
@@ -202,9 +198,7 @@ impl<'t> Printer<'t> {
     /// Appends bytes.
     pub(crate) fn push_bytes(&mut self, bytes: &[u8]) -> Result<()>
         ensures text { OnOk result (self.new.text.items ≡ self.old.text.items ++ bytes.now) }
-        ensures same { (self.new.planned.items ≡ self.old.planned.items)
-            × (self.new.pieces.items ≡ self.old.pieces.items)
-            × (self.new.tree.now ≡ self.old.tree.now) }
+        ensures same { SamePieces self.old self.new }
     {
         self.text.extend_from_slice(bytes)?;
         Ok(())
@@ -266,10 +260,7 @@ impl<'t> Printer<'t> {
 
     /// Plans the parts of a node.
     fn run_node(&mut self, index: usize, flags: DemangleFlags) -> Result<()>
-        ensures { (text : List ℕ) → self.old.planned.items ≡ []
-            → option_and_then (literal_in self.old.tree.now.texts.items)
-            (slice_get self.old.tree.now.nodes.items index) ≡ Some text
-            → OnOk result (Prints text self.old self.new) }
+        ensures { PrintsKnown (literal_at self.old.tree.now index) self.old self.new result }
     {
         match self.tree.node(index)? {
             Node::Identifier(identifier, arguments) => {

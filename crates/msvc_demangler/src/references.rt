@@ -1,11 +1,11 @@
 //! Back references: the names, and the types of parameters, that a digit stands for.
 
-ghost use Rattle.std.specs.Prelude.{◌≡◌, ◌-◌, [], IfOk, OnOk, drop, length, map, nat_lt};
-ghost use Rattle.std.specs.Prelude.{if◌then◌else◌, option_and_then, option_map, take};
+ghost use Rattle.std.specs.Prelude.{◌≡◌, ◌-◌, [], IfOk, OnOk, drop, map, option_map, take};
 ghost use Rattle.std.specs.Result.{result_ok};
-ghost use Rattle.msvc_demangler.specs.References.{is_among, name_in, names_of, referred, remember};
-ghost use Rattle.msvc_demangler.specs.References.{remember_type, types_of};
-ghost use Rattle.msvc_demangler.specs.Texts.{handed, last_value, text_at};
+ghost use Rattle.msvc_demangler.specs.References.{handed_name, is_among, names_of, part_text};
+ghost use Rattle.msvc_demangler.specs.References.{referred, remember, remember_type, types_of};
+ghost use Rattle.msvc_demangler.specs.References.{with_type};
+ghost use Rattle.msvc_demangler.specs.Texts.{last_value, text_at};
 
 use crate::parser::Parser;
 use crate::stop::{Result, Stop};
@@ -72,8 +72,8 @@ impl<'n> Parser<'n> {
     /// Remembers a name, unless it is remembered, or as many are as can be.
     #[tactic(auto, unfolding(crate::specs::References::remember))]
     pub(crate) fn remember_name(&mut self, name: Span) -> Result<()>
-        ensures { OnOk result (names_of self.new
-            ≡ remember (names_of self.old) (text_at self.old.tree.texts.items name)) }
+        ensures { OnOk result
+            (names_of self.new ≡ remember (names_of self.old) (part_text self.old name)) }
     {
         if self.first_name > self.names.len() {
             return Err(Stop::Undecorated);
@@ -93,7 +93,7 @@ impl<'n> Parser<'n> {
     /// The name that a digit stands for.
     #[tactic(auto, using(crate::proofs::Remembered::mapped_at))]
     fn remembered_name(&self, digit: u8) -> Result<Span>
-        ensures { option_map (text_at self.now.tree.texts.items) (result_ok result)
+        ensures { option_map (part_text self.now) (result_ok result)
             ≡ referred (names_of self.now) digit }
     {
         match from_place(self.names.as_slice(), self.first_name).get(place_of(digit)) {
@@ -104,8 +104,7 @@ impl<'n> Parser<'n> {
 
     /// Hands on the name that a digit stands for.
     pub(crate) fn refer_to_name(&mut self, digit: u8) -> Result<()>
-        ensures { OnOk result (option_and_then (name_in self.new.tree.texts.items) (handed self.new)
-            ≡ referred (names_of self.old) digit) }
+        ensures { OnOk result (handed_name self.new ≡ referred (names_of self.old) digit) }
     {
         let name = self.remembered_name(digit)?;
         self.give_identifier(Identifier::Named(name))
@@ -128,10 +127,8 @@ impl<'n> Parser<'n> {
     /// Remembers the type that was handed on last, before which so many bytes were left, if it took
     /// more than one: a letter is as short as a digit.
     pub(crate) fn remember_long(&mut self, left: usize) -> Result<()>
-        ensures { OnOk result (Some (types_of self.new) ≡ option_map (λ index.
-            (if nat_lt 1 (left - length self.old.rest.now)
-            then remember_type (types_of self.old) index else types_of self.old))
-            (last_value self.old)) }
+        ensures { OnOk result
+            (Some (types_of self.new) ≡ option_map (with_type self.old left) (last_value self.old)) }
     {
         let index = self.top()?;
         if left.saturating_sub(self.rest.len()) > 1 {

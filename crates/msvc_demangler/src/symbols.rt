@@ -1,7 +1,7 @@
 //! Symbols: variables, functions, and those that stand for parts of others.
 
 ghost use Rattle.std.specs.Prelude.{◌≡◌, IsTrue, OnOk};
-ghost use Rattle.msvc_demangler.specs.Literals.{HandsOn, is_literal, literal_name};
+ghost use Rattle.msvc_demangler.specs.Literals.{ReadsAs, is_literal, literal_name};
 
 use crate::parser::Parser;
 use crate::stop::{Result, Stop};
@@ -12,8 +12,7 @@ use crate::words::{Access, storage_of};
 impl<'n> Parser<'n> {
     /// Reads what a task of symbols says.
     pub(crate) fn run_symbol(&mut self, task: Task) -> Result<()>
-        ensures { IsTrue (is_literal self.old.rest.now) → task ≡ Task.Symbol
-            → OnOk result (HandsOn (literal_name self.old.rest.now) self.old self.new) }
+        ensures { task ≡ Task.Symbol → ReadsAs is_literal literal_name self.old self.new result }
     {
         match task {
             Task::Encoding => self.start_encoding(),
@@ -32,8 +31,7 @@ impl<'n> Parser<'n> {
     /// Reads a symbol.
     #[tactic(auto, unfolding(crate::specs::Literals::literal_name))]
     fn start_symbol(&mut self) -> Result<()>
-        ensures { IsTrue (is_literal self.old.rest.now)
-            → OnOk result (HandsOn (literal_name self.old.rest.now) self.old self.new) }
+        ensures { ReadsAs is_literal literal_name self.old self.new result }
     {
         let rest = self.rest;
         match rest {

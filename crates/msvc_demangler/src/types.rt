@@ -2,7 +2,7 @@
 
 ghost use Rattle.std.specs.Prelude.{◌≡◌, option_map};
 ghost use Rattle.msvc_demangler.specs.Words.{basic_type_of as split_basic_type_of};
-ghost use Rattle.msvc_demangler.specs.Words.{before as before_of};
+ghost use Rattle.msvc_demangler.specs.Words.{before as before_of, read_word};
 
 use crate::letters::extended_qualifiers;
 use crate::parser::Parser;
@@ -28,7 +28,7 @@ fn leads_to_member(rest: &[u8]) -> Option<bool> {
 
 /// A word, if there is one, and what comes after it.
 fn before<'t>(word: Option<&'static str>, after: &'t [u8]) -> Option<(&'static str, &'t [u8])>
-    ensures { option_map (λ r. (r.0.now, r.1.now)) result
+    ensures { read_word result
         ≡ before_of after.entry.now (option_map (λ w. w.now) word.entry) }
 {
     match word {
@@ -40,7 +40,7 @@ fn before<'t>(word: Option<&'static str>, after: &'t [u8]) -> Option<(&'static s
 /// The basic type that a text begins with, and what comes after.
 #[tactic(auto, unfolding(crate::specs::Words::basic_type_of))]
 fn split_basic_type(rest: &[u8]) -> Option<(&'static str, &[u8])>
-    ensures { option_map (λ r. (r.0.now, r.1.now)) result ≡ split_basic_type_of rest.now }
+    ensures { read_word result ≡ split_basic_type_of rest.now }
 {
     match rest {
         [b'$', b'$', b'T', after @ ..] => Some(("std::nullptr_t", after)),

@@ -34,7 +34,7 @@ loop-step-preserved c = record {
       sym (ap (option_map (λ r. p.text.items ++ r))
       (ap (last_first tree) c.in-Some.ensures.items ∙ first_more tree left piece)) ∙ inv.0 in
       let has = piece_has_text p.text.items text _ _ at in
-      let prints = c.in_ok-run.ensures has.0 inv.1 has.1 in
+      let prints = c.in_ok-run.ensures has.0 has.1 inv.1 in
       let over : last_first new.tree.now new.pieces.items ≡ before (last_first tree left) planned =
       c.in_ok-take_over.ensures.pieces
       ∙ ap (λ l. before l planned)
@@ -42,7 +42,7 @@ loop-step-preserved c = record {
         one_printed p.text.items new.text.items text (last_first tree left) (piece_text tree piece)
             planned _ at
             (λ t f. ap (λ b. option_map (λ r. b ++ r) planned) c.take_over.ensures.text
-            ∙ (c.in_ok-run.ensures t inv.1 f).0)
+            ∙ (c.in_ok-run.ensures t f inv.1).0)
             over,
         c.in_ok-take_over.ensures.planned,
       );

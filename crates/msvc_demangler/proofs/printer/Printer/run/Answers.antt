@@ -5,7 +5,7 @@ use Rattle.msvc_demangler.proofs.Printing.{on_ok, pushed}
 use Rattle.msvc_demangler.proofs.printer.Printer.run.Goals as goal
 
 pub returns-in-Word : goal.returns-in-Word
-returns-in-Word c text empty is =
+returns-in-Word c text is empty =
     let p = c.args.self.now in
     let word = same_Some _ _ (sym (ap (piece_text p.tree.now) c.in-Word.is) ∙ is) in
     on_ok c.push_bytes.result _ _
@@ -14,7 +14,7 @@ returns-in-Word c text empty is =
     c.push_bytes.ensures.text
 
 pub returns-in_ok-text-in-Text : goal.returns-in_ok-text-in-Text
-returns-in_ok-text-in-Text c text empty is =
+returns-in_ok-text-in-Text c text is empty =
     let p = c.args.self.now in
     let at = same_Some _ _ (sym (ap (piece_text p.tree.now) c.in-Text.is) ∙ is) in
     on_ok c.push_bytes-in-Text.result _ _
