@@ -7,6 +7,9 @@
 //! and the functions again, without their arguments. It prints how many addresses each has, and at
 //! last the lines of the file LISTED, module by module (`list_lines.rt`).
 //!
+//! Calls may be added. docs/GUIDE.md and the heads of libraries show pieces of it, so these change
+//! together.
+//!
 //! Its stored run asks `x64.pdb`, which examples/make.sh made. There type 0x1007 is the member
 //! function `TextReader::read`, and 0x1016 the class `Entry`.
 #![tactic(auto)]

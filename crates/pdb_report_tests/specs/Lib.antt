@@ -1,3 +1,5 @@
+pub mod Laws
 pub mod OneFunction
+pub mod Reports
 pub mod Samples
 pub mod WordRows

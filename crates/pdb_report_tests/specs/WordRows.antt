@@ -15,9 +15,17 @@ sizes_words start end = codes "sizes" ∷ codes "F" ∷ start ∷ end ∷ []
 abbrev pub by_file_words : List Text
 by_file_words = codes "sizes" ∷ codes "--by-file" ∷ codes "F" ∷ codes "10" ∷ codes "20" ∷ []
 
+-- the arguments `sizes F 10`, which lack one
+abbrev pub short_words : List Text
+short_words = codes "sizes" ∷ codes "F" ∷ codes "10" ∷ []
+
 -- a subcommand's name, FILE, and the addresses at START and END
 abbrev pub Told : Type 0
 Told = Text × Option Text × Option ℕ × Option ℕ
+
+-- what `sizes F` and two more arguments enter, by the addresses that these are
+abbrev pub sizes_told : Option ℕ → Option ℕ → Told
+sizes_told start end = (codes "sizes", Some (codes "F"), start, end)
 
 -- what arguments enter
 abbrev pub told_of : List Text → Option Told

@@ -4,8 +4,7 @@ ghost use Rattle.std.specs.Prelude.{◌≡◌};
 
 use crate::database::files::database_of;
 use pdb_container::{Error, FallibleIterator, Result};
-use pdb_container_types::{TypeFinder, TypeIndex, TypeInformation, TypeIter};
-use pdb_items::find_counting;
+use pdb_container_types::{TypeFinder, TypeIndex, TypeInformation, TypeIter, find_counting};
 use pdb_samples::{SampleError, push_u32};
 use std::alloc::Global;
 use std::test::Fail;

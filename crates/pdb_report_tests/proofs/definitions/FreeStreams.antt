@@ -14,7 +14,7 @@ use Rattle.pdb_container.specs.Fields.{entries_within, c_string_at, number_at}
 use Rattle.pdb_container.specs.Listing.{listing_within}
 use Rattle.pdb_container.specs.Places.{bytes_at, page_places}
 use Rattle.pdb_container.specs.StringTable.{names_of, name_in, text_in}
-use Rattle.pdb_indices.specs.RecordFields.{many_at}
+use Rattle.pdb_container.specs.RecordFields.{many_at}
 use Rattle.pdb_subsections.specs.Subsections.{subsection_at}
 use Rattle.pdb_symbols_modules.specs.DatabaseCalls.{debug_information, names}
 use Rattle.pdb_symbols_modules.specs.Dbi.{Dbi, header_of, dbi_of}

@@ -12,11 +12,11 @@ use Rattle.pdb_container.specs.Fields.{entries_within, c_string_at}
 use Rattle.pdb_container.specs.Listing.{listing_within}
 use Rattle.pdb_container.specs.Places.{bytes_at, page_places}
 use Rattle.pdb_container.specs.StringTable.{names_of, name_in}
-use Rattle.pdb_indices.specs.RecordFields.{type_index_at, id_index_at, many_at, name_at}
+use Rattle.pdb_container.specs.RecordFields.{type_index_at, id_index_at, many_at, name_at}
 use Rattle.pdb_records.specs.IdRecords.{function_id_at, id_form_behind, id_form_of}
 use Rattle.pdb_records.specs.TypeLeaves.{aggregate_at, type_at as plain_type_at, base_at, plain_at, type_form_behind, type_form_of}
 use Rattle.pdb_records.specs.TypeRecords.{procedure_at, argument_list_at}
-use Rattle.pdb_items.specs.Items.{header_at, fitting_header, item_header_of, table_of, item_number, piece_at, items_within, items_from, item_at}
+use Rattle.pdb_container_types.specs.Items.{header_at, fitting_header, item_header_of, table_of, item_number, piece_at, items_within, items_from, item_at}
 use Rattle.pdb_addresses.specs.Omap.{omap_record_at, omap_of}
 use Rattle.pdb_addresses.specs.Sections.{section_header_at}
 use Rattle.pdb_symbol_records.specs.Annotations.{with_length_at, with_operand_at, behind_opcode, annotation_or_end, annotations_of}
@@ -27,8 +27,8 @@ use Rattle.pdb_subsections.specs.Subsections.{subsection_at}
 use Rattle.pdb_lines.specs.Checksums.{file_at, file_in}
 use Rattle.pdb_lines.specs.LineMarks.{block_in, block_at}
 use Rattle.pdb_lines.specs.LinesSubsections.{lines_subsection_of, program_of}
-use Rattle.pdb_inlinees.specs.InlinedRows.{place_behind, line_behind, last_line_behind, last_column_behind, row_behind, length_by, length_behind, row_of, rows_behind, all_rows}
-use Rattle.pdb_inlinees.specs.Inlinees.{inlinee_at, inlinees_of}
+use Rattle.pdb_lines.specs.InlinedRows.{place_behind, line_behind, last_line_behind, last_column_behind, row_behind, length_by, length_behind, row_of, rows_behind, all_rows}
+use Rattle.pdb_lines.specs.Inlinees.{inlinee_at, inlinees_of}
 use Rattle.pdb_symbols_modules.specs.ModuleStream.{signed, symbol_list_bytes, line_data_in, line_program_in, subsection_in, inlinees_in}
 use Rattle.pdb_symbols_modules.specs.AddressTables.{map_behind, sections_by, original_sections_by, address_map_by}
 use Rattle.pdb_symbols_modules.specs.Contributions.{contribution_at, contributions_of}
@@ -41,8 +41,8 @@ use Rattle.pdb_symbols_modules.specs.Shared.{optional_in, named, named_number, s
 use Rattle.pdb_symbols_modules.specs.Streams.{if_named, streams}
 use Rattle.pdb_resolving.specs.Fault.{PdbError}
 use Rattle.pdb_module_items.specs.Reading.{type_in, type_at, id_in, id_at}
-use Rattle.pdb_type_text.specs.Ids.{visit_id}
-use Rattle.pdb_type_text.specs.Types.{visit}
+use Rattle.pdb_names.specs.Ids.{visit_id}
+use Rattle.pdb_names.specs.Types.{visit}
 use Rattle.pdb_contributions.specs.MergedContributions.{held_by, held_of}
 use Rattle.pdb_module_data.specs.Forest.{body_within, body}
 use Rattle.pdb_frames.specs.Parts.{parts_of}

@@ -5,13 +5,13 @@ use Rattle.pdb_container.specs.Fault as container
 use Rattle.pdb_container.specs.Fault.{◌>>=◌}
 use Rattle.pdb_addresses.specs.declared.internal_section_offset.PdbInternalSectionOffset.{PdbInternalSectionOffset}
 use Rattle.pdb_contributions.specs.declared.contribution.ModuleSectionContribution.{ModuleSectionContribution}
-use Rattle.pdb_inlinees.specs.Inlinees.{InlinedFunction}
+use Rattle.pdb_lines.specs.Inlinees.{InlinedFunction}
 use Rattle.pdb_symbols_modules.specs.ModuleStream.{ModuleStream, iteration_in}
 use Rattle.pdb_module_data.specs.FunctionLine.{function_rows, row_at}
 use Rattle.pdb_module_data.specs.Forest.{sites_of}
 use Rattle.pdb_module_data.specs.InlinedCalls.{call_rows, calls_over}
 use Rattle.pdb_resolving.specs.Fault.{Fault, lifted}
-use Rattle.pdb_type_text.specs.Env.{Env}
+use Rattle.pdb_names.specs.Env.{Env}
 use Rattle.pdb_frames.specs.Failing as parts
 use Rattle.pdb_frames.specs.Choice.{Parts, Chosen, Proc, Public, chosen, place_of, start_address, start_of, held_at}
 use Rattle.pdb_frames.specs.Scopes.{Scope}

@@ -1,7 +1,7 @@
 //! The indices on a path, which each level removes when it ends.
 
 use pdb_addr2line::Error;
-use pdb_type_pieces::{IndexPath, Seen};
+use pdb_type_printing::{IndexPath, Seen};
 use std::alloc::Global;
 use std::test::Fail;
 

@@ -5,7 +5,7 @@ ghost use Rattle.clap.specs.Words.{fault_of};
 ghost use Rattle.clap.specs.declared.error.kind.ErrorKind.TheVariants as kinds;
 ghost use Rattle.pdb_arguments.specs.Task.{IsTaken, program_app};
 ghost use Rattle.pdb_report_tests.specs.WordRows.{by_file_words, frames_words, is_by_file};
-ghost use Rattle.pdb_report_tests.specs.WordRows.{sizes_words, told_of};
+ghost use Rattle.pdb_report_tests.specs.WordRows.{short_words, sizes_told, sizes_words, told_of};
 
 /// `frames F` is a task.
 pub fn frames()
@@ -17,14 +17,14 @@ pub fn frames()
 pub fn sizes()
     ensures taken { IsTaken (sizes_words (codes "0x10") (codes "20")) }
     ensures task { told_of (sizes_words (codes "0x10") (codes "20"))
-        ≡ Some (codes "sizes", Some (codes "F"), Some 16, Some 32) }
+        ≡ Some (sizes_told (Some 16) (Some 32)) }
 {}
 
 /// `sizes --by-file F 10 20` is the task from 16 to 32 by file, and without the flag it isn't.
 pub fn sizes_by_file()
     ensures taken { IsTaken by_file_words }
     ensures task { told_of by_file_words
-        ≡ Some (codes "sizes", Some (codes "F"), Some 16, Some 32) }
+        ≡ Some (sizes_told (Some 16) (Some 32)) }
     ensures flag { is_by_file by_file_words ≡ Some true }
     ensures no_flag { is_by_file (sizes_words (codes "10") (codes "20")) ≡ Some false }
 {}
@@ -33,12 +33,12 @@ pub fn sizes_by_file()
 pub fn sizes_to_no_address()
     ensures taken { IsTaken (sizes_words (codes "10") (codes "zz")) }
     ensures task { told_of (sizes_words (codes "10") (codes "zz"))
-        ≡ Some (codes "sizes", Some (codes "F"), Some 16, None) }
+        ≡ Some (sizes_told (Some 16) None) }
 {}
 
 /// `sizes F 10` lacks an argument, and `--help` asks for help.
 pub fn refused_words()
-    ensures missing { fault_of program_app (codes "sizes" ∷ codes "F" ∷ codes "10" ∷ [])
+    ensures missing { fault_of program_app short_words
         ≡ kinds.MissingRequiredArgument ∷ [] }
     ensures help { fault_of program_app (codes "--help" ∷ []) ≡ kinds.DisplayHelp ∷ [] }
 {}
