@@ -10,7 +10,7 @@ PROGRAMS = ["pdb_symbolizer", "pdb_inspect", "pdb_llvm_symbolizer"]
 # The gate proves, compiles and runs the examples, which stand in these crates; and the crates that
 # users of the library name.
 EXAMPLES = ["example_calls", "recorded_cases", "pdb_report_tests"]
-CALLED = ["pdb_addr2line", "pdb_databases", "pdb_report", "pdb_symbols_modules"]
+CALLED = ["pdb_addr2line", "pdb_report", "pdb_symbols_modules"]
 CALLED += ["pdb_container_types", "pdb_image"]
 top = built.ROOT
 is_unproved = "--unproved" in words
@@ -199,15 +199,25 @@ def unwritten_texts():
             with open("/dev/full", "wb") as full:
                 ran = subprocess.run([programs[name], word], stdout=full, stderr=subprocess.PIPE)
             came = ran.returncode, ran.stderr.decode(errors="replace")
-            yield f"{name} {word}", None if came == (1, wanted) else came
+            yield f"{name} {word} > /dev/full", None if came == (1, wanted) else came
+
+
+def answer_to_closed_input():
+    """What comes of an address, and of closed standard input, where that isn't its end."""
+    command = [programs["pdb_symbolizer"], "frames", f"{top}/crates/pdb_symbolizer/data/x64.pdb"]
+    asked = subprocess.run(command, input=b"2000\n", capture_output=True)
+    closed = subprocess.run(["sh", "-c", 'exec "$@" <&-', "sh", *command], capture_output=True)
+    came = asked.stdout, closed.returncode, closed.stdout[:80], closed.stderr[:80]
+    wanted = b"0x00002000\n  ??\n", 0, b"", b""
+    return "pdb_symbolizer frames x64.pdb <&-", None if came == wanted else came
 
 
 total = wrong = 0
-for command, came in [] if is_unproved else unwritten_texts():
+for command, came in [] if is_unproved else [*unwritten_texts(), answer_to_closed_input()]:
     total += 1
     if came is not None:
         wrong += 1
-        print(f"{command} > /dev/full: came {came}")
+        print(f"{command}: came {came}")
 for other in copies_differ():
     wrong += 1
     print(f"crates/{other} is another database than that of crates/pdb_symbolizer/data")

@@ -16,7 +16,7 @@
 # runs with --slow alone. Each block ```rust has to stand in crates/example_calls; each example in a
 # comment on a crate or an item, in that or another crate of examples; and each crate that users of
 # the library name has one at its head. The programs have to end with status 1, and say why, where
-# help or the version can't be written. With --write what came is put into the documents. The last
-# line is `N passed, M failed`, in commands.
+# help or the version can't be written; pdb_symbolizer takes closed input for its end. With --write
+# what came is put into the documents. The last line is `N passed, M failed`, in commands.
 set -eu
 exec python3 "$(dirname "$0")/commands.py" "$@"

@@ -429,9 +429,9 @@ SOURCE = {
     "ids": "crates/pdb_records/src/id_data.rt",
     "symbols": "crates/pdb_symbol_records/src/symbol_data.rt",
     "errors": "crates/pdb_resolving/src/error.rt",
-    "requests": "crates/pdb_llvm_requests/src/request.rt",
+    "requests": "crates/pdb_llvm_protocol/src/request.rt",
     "sites": "crates/pdb_module_data/src/inline_sites.rt",
-    "paths": "crates/pdb_type_pieces/src/index_path.rt",
+    "paths": "crates/pdb_type_printing/src/index_path.rt",
     "copies": "crates/pdb_container/src/bounded_bytes.rt",
 }
 # Numbers that documents name: the document, the words around one, # for it, and what the sources

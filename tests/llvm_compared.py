@@ -84,6 +84,19 @@ def bounds_lines():
     return is_told and ran.returncode == 0
 
 
+def ends_where_input_is_closed():
+    """Whether closed standard input is the end of input, and no file is read in its place."""
+    file = "--obj=x64.pdb"
+    asked = {("--obj=x64.exe",): b"", (file,): b"", (file, "0x1148"): FRAMES}
+    for words, answer in asked.items():
+        command = ["timeout", "20", program, *words]
+        how = {"cwd": llvm_cases.DATA, "preexec_fn": lambda: os.close(0)}
+        ran = subprocess.run(command, capture_output=True, **how)
+        if (ran.returncode, ran.stdout, ran.stderr) != (0, answer, b""):
+            return False
+    return True
+
+
 def image_of(database):
     """The bytes of x64.exe with another path in place of its database's."""
     with open(f"{llvm_cases.DATA}/x64.exe", "rb") as file:
@@ -214,7 +227,7 @@ for name in names:
         print(f"{name}: otherwise than llvm-symbolizer, and not as {name}.differs says:")
         print(differs.decode(errors="replace"))
 TESTS = (answers_in_turn, bounds_lines, opens_regular_files, reads_as_far_as_headers)
-TESTS += (finds_in_stores,)
+TESTS += (finds_in_stores, ends_where_input_is_closed)
 TESTS = () if is_unproved else TESTS
 for test in TESTS:
     if not test():

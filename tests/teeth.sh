@@ -73,9 +73,9 @@ over_nothing recorded_reports.py 2 row_before-first-function_F row_one-line_F
 over_nothing json_reports.py 1 row_before-first-function_F
 over_nothing refused_requests/sweep.py 4 row_one-line_F 'llvm llvm' \
     'read sections plain.pdb 2608:0b' 'formatter signatures.hex 23'
-over_nothing commands.sh 7 --quick README.md
+over_nothing commands.sh 8 --quick README.md
 over_nothing manual.sh 1
-over_nothing llvm_symbolizer.sh 6 llvm
+over_nothing llvm_symbolizer.sh 7 llvm
 over_nothing llvm_protocol.py 223
 over_nothing llvm_clients.py 1
 over_nothing stack.py 16
@@ -98,14 +98,14 @@ stale word docs/GUIDE.md '`find_shared_frames`' '`find_joined_frames`'
 stale place docs/ARCHITECTURE.md '(`read_stream`)' '(`read_streams`)'
 stale place docs/ARCHITECTURE.md '`Procedures` (`over`)' '`Procedures` (`beneath`)'
 stale place docs/ARCHITECTURE.md loading.rt loadings.rt
-stale place docs/GLOSSARY.md pdb_databases/specs/Answer pdb_databases/specs/Reply
+stale place docs/GLOSSARY.md pdb_addr2line/specs/Answer pdb_addr2line/specs/Reply
 stale clause docs/PROVED.md '`Source::may_list`' '`Source::may_cut`'
 stale clause docs/PROVED.md '`loaded`, `refused`' '`loaded`, `turned_away`'
 stale clause docs/PROVED.md '`kept`, `text`' '`kept`'
 stale clause docs/PROVED.md '`laws::frames_as_deep`' '`laws::frames_so_deep`'
 stale clause docs/PROVED.md '`isolated`, `exchanged` | Every' '`isolated` | Every'
 stale count docs/PROVED.md '798 whole' '791 whole'
-stale count docs/RELEASING.md '127 edits' '100 edits'
+stale count docs/RELEASING.md '128 edits' '100 edits'
 stale date docs/DECISIONS.md 'need no memory. (28 Nov)' 'need no memory.'
 stale date docs/DECISIONS.md 'rattle-kit-' 'kit-'
 stale script docs/RELEASING.md '`tests/stack.py`' '`tests/stacks.py`'

@@ -7,15 +7,18 @@ is read on demand; `rt ci` has to have built them.
 Of a case, the Nth request is refused in the Nth of as many runs as there are requests in one with
 nothing refused.
 
-- `pdb_symbolizer`, on the recorded rows of reports: such a run ends with status 1 and `fault:
-  OutOfMemory` on standard error, and what is out is a prefix of the row's report. One that ends as
+- `pdb_symbolizer`, on the recorded rows of reports and on lines of JSON: such a run ends with
+  status 1 and `fault: OutOfMemory` on standard error, and what is out is a prefix. One that ends as
   if nothing was refused passes in a case that exceptions.txt names, with the reason; where the
   request is of a function that it names; and at most once in 20 requests of others. A run whose Nth
   read at an offset fails, in the Nth of as many as there are, ends with status 1 and `fault:
   File(Other)`, and what is out is a prefix, too.
 - `pdb_llvm_symbolizer`, on the cases of tests/llvm_symbolizer: such a run ends with status 1 and
   says so on standard error, and what is out is a prefix. For such runs as go on exceptions.txt has
-  the reason too.
+  the reason too. A run whose Nth read at an offset fails says why the file can't be read, on
+  standard error or in JSON in the answer, and no line of it says anything else of an address than
+  that nothing is known; or it goes on as if nothing failed, where the database lies at a second
+  place, too.
 - `pdb_symbols`, on databases of tests/symbols, alone and with an image: such a run ends as one of
   `pdb_symbolizer` has to, with a prefix of the symbol file. With `--output` the file that was there
   before stays as it was, and nothing is left beside it.
@@ -37,6 +40,7 @@ gcc).
 import bisect
 import collections
 import concurrent.futures
+import glob
 import os
 import re
 import shutil
@@ -105,11 +109,13 @@ def recorded_texts():
 
 
 class Case:
-    """A run of a program, with at least so many requests; and with so many reads at offsets, where these are failed.
-    Where `wanted` is none, it is what comes with nothing refused. `called` is what names the
-    program and its command."""
+    """A run of a program, with at least so many requests; and with so many reads at offsets, where
+    requests may go on as UNNAMED says. Its reads are failed if `fails_reads`. Where `wanted` is
+    none, it is what comes with nothing refused. `called` is what names the program and its
+    command."""
 
     folder, given, wanted, least, least_reads, called = ROOT, b"", None, 1, None, None
+    fails_reads = False
 
     def __init__(self, name, words):
         self.name, self.words = name, words
@@ -122,7 +128,7 @@ class Case:
 class Report(Case):
     """A run of pdb_symbolizer, which reads its file on demand."""
 
-    program, least_reads = "pdb_symbolizer", 1
+    program, least_reads, fails_reads = "pdb_symbolizer", 1, True
 
     def is_unread(self, wanted, came):
         """Whether a run in which a read failed is as it has to be."""
@@ -131,6 +137,20 @@ class Report(Case):
     def is_right(self, wanted, came):
         """Whether a run in which a request was refused is as it has to be."""
         return came[0] == 1 and came[2] == b"fault: OutOfMemory\n" and wanted[1].startswith(came[1])
+
+
+class JsonReport(Report):
+    """A run of pdb_symbolizer that writes lines of JSON: frames, a fault, and a line that isn't an address."""
+
+    called, folder = "pdb_symbolizer frames --json", f"{ROOT}/crates/pdb_symbolizer/data"
+    given = b"11c4\n1148\nzz\n"
+    wanted = (
+        0,
+        b'{"address":"0x000011c4","frames":[{"function":"plain","file":null,"line":null,"row":null}]}\n'
+        b'{"address":"0x00001148","error":"unreadable"}\n'
+        b'{"line":"zz","error":"not an address"}\n',
+        b"",
+    )
 
 
 # Arguments of pdb_symbolizer that ask for no report, with the status, and what stands in the output
@@ -165,10 +185,25 @@ class Words(Report):
         return "" if is_told else shown(came)
 
 
+# What says that a read failed, and a line of the answer where nothing is known.
+UNREAD_TEXT = re.compile(rb"Input/output error|No such file or directory")
+UNKNOWN_LINE = re.compile(
+    rb'(\?\?( at )?(\?\?:0(:0)?)?|  \w+: (\?\?|0))?|[\[\], ]*\{"Address":.*"Error":.*'
+    rb'|    "Error": \{|      "Message": "Input/output error"|    "ModuleName": ".*"'
+)
+
+
 class DropIn(Case):
     """A run of pdb_llvm_symbolizer."""
 
-    program, folder = "pdb_llvm_symbolizer", llvm_cases.DATA
+    program, folder, fails_reads = "pdb_llvm_symbolizer", llvm_cases.DATA, True
+
+    def is_unread(self, wanted, came):
+        """Whether a run in which a read failed is as it has to be."""
+        known = set(wanted[1].splitlines())
+        others = [it for it in came[1].splitlines() if it not in known]
+        is_told = UNREAD_TEXT.search(came[1] + came[2]) is not None
+        return came == wanted or is_told and all(map(UNKNOWN_LINE.fullmatch, others))
 
     def differs(self, came):
         """What is neither llvm-symbolizer's nor a stored difference where nothing was refused."""
@@ -210,7 +245,7 @@ class SymbolsFile(Symbols):
 
     def written(self):
         """What the file holds; nothing if it isn't there, or if something lies beside it."""
-        if os.path.exists(f"{self.path}.part") or not os.path.exists(self.path):
+        if glob.glob(f"{self.path}.part*") or not os.path.exists(self.path):
             return b""
         with open(self.path, "rb") as file:
             return file.read()
@@ -237,6 +272,7 @@ COMMANDS = [
     "modules F",
     "sources F ../../../examples/source",
     "info F",
+    "info F ../../pdb_llvm_symbolizer/data/x64.exe",
     "locate F plain start+16",
     "sizes F",
     "sizes F --by file",
@@ -247,6 +283,7 @@ COMMANDS = [
     "sizes F --join-padding --top 3",
     "diff F i386.pdb",
     "diff F i386.pdb --by section",
+    "diff F i386.pdb --top 1 --format csv",
     "help sizes",
     "sizes F --top a",
 ]
@@ -258,6 +295,7 @@ class Inspected(Case):
     """A run of pdb_inspect."""
 
     program, folder = "pdb_inspect", f"{ROOT}/crates/pdb_symbolizer/data"
+    fails_reads = True
 
     def __init__(self, words):
         super().__init__(f"inspect {words}", words.replace("F", "x64.pdb").split())
@@ -332,6 +370,7 @@ def reports(folder):
         # A file that is too short for a header isn't read.
         case.least_reads = int(row.status == 0)
         yield case
+    yield JsonReport("json damaged.pdb", ["frames", "--json", "damaged.pdb"])
     for words in WORDS:
         yield Words(words)
 
@@ -493,7 +532,7 @@ def may_go_on(case, callers, exceptions):
 def failing_reads(program, case, wanted, reads):
     """Fails each read at an offset of a case in turn; gives what went wrong."""
     wrong = []
-    for number in range(1, 1 if case.least_reads is None else reads + 1):
+    for number in range(1, reads + 1 if case.fails_reads else 1):
         came = program.run(case, read_number=number)[0]
         if not case.is_unread(wanted, came):
             wrong.append(f"{case.name}: read {number} of {reads} failed: {shown(came)}")
@@ -520,7 +559,7 @@ def shown(came):
 
 # All
 
-KINDS = Report, Inspected, DropIn, Symbols, Read, Asked
+KINDS = Report, JsonReport, Inspected, DropIn, Symbols, Read, Asked
 
 
 def exceptions_of():
