@@ -4,8 +4,10 @@ pub mod OmapLemmas
 pub mod OrderSteps
 pub mod Ordered
 pub mod PlaceBack
+pub mod PlaceRuns
 pub mod PlaceSteps
 pub mod RangeSteps
+pub mod RecordRuns
 pub mod RunLemmas
 pub mod RunSteps
 pub mod Stable

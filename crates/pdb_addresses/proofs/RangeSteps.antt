@@ -60,7 +60,7 @@ along_number records n a k le before = elim (cases_eq n 0) [
 
 -- ---- the record of an address
 
-number_at : (records : List OMAPRecord) (a n : ℕ) → n ≤ length records
+pub number_at : (records : List OMAPRecord) (a n : ℕ) → n ≤ length records
     → AllWithin (λ r. source r ≤ a) records 0 n
     → ((j : ℕ) → n ≤ j → j < length records → a < source (get_or records j no_record))
     → last_number records a ≡ n
@@ -100,7 +100,7 @@ segment records n a stop end at le le' behind other =
 
 -- ---- the next source
 
-source_found : (records : List OMAPRecord) (n end s : ℕ) → source_before (Some records) n end
+pub source_found : (records : List OMAPRecord) (n end s : ℕ) → source_before (Some records) n end
     ≡ Some s → (n < length records) × (source (get_or records n no_record) ≡ s) × (s < end)
 source_found records n end s e = elim (cases_lt n (length records)) [
   | inl there ↦
@@ -124,7 +124,7 @@ source_found records n end s e = elim (cases_lt n (length records)) [
       absurd cc
 ]
 
-sources_past : (records : List OMAPRecord) (n end : ℕ) → AreSourcesInOrder records
+pub sources_past : (records : List OMAPRecord) (n end : ℕ) → AreSourcesInOrder records
     → source_before (Some records) n end ≡ None
     → (j : ℕ) → n ≤ j → j < length records → end ≤ source (get_or records j no_record)
 sources_past records n end order e j le lt =

@@ -25,7 +25,7 @@ passed a b n le = rw (le-ltb a b le) refl
 
 -- ---- the next of several bounds
 
-most : (bs : List ℕ) (a n : ℕ) → up_to_next bs a n ≤ n
+pub most : (bs : List ℕ) (a n : ℕ) → up_to_next bs a n ≤ n
 most [] a n = omega arith
 most (b ∷ bs) a n = let le = most bs a n in elim (cases_lt a b) [
   | inl l ↦ let e = past a b (up_to_next bs a n) l in omega arith

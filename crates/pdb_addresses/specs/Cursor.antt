@@ -6,6 +6,7 @@ use Rattle.std.specs.List.{AllWithin}
 use Rattle.std.specs.declared.ops.Range.{Range}
 use Rattle.pdb_addresses.specs.declared.omap.OMAPRecord.{OMAPRecord}
 use Rattle.pdb_addresses.specs.Addresses.{IsInOrder}
+use Rattle.pdb_addresses.specs.Numbers.{in_32_bits}
 use Rattle.pdb_addresses.specs.Omap.{source, record_at, sent_by}
 use Rattle.pdb_addresses.specs.Ranges.{TranslatedRun, below}
 
@@ -40,6 +41,10 @@ next_source (Some records) number = option_map source (slice_get records number)
 -- that source, where it lies before an address
 abbrev pub source_before : Option (List OMAPRecord) → ℕ → ℕ → Option ℕ
 source_before omap number end = option_and_then (below end) (next_source omap number)
+
+-- what so many addresses further becomes by the same record, where the first becomes that
+abbrev pub sent_along : Option ℕ → ℕ → Option ℕ
+sent_along first k = option_and_then (λ x. in_32_bits (x + k)) first
 
 -- what an address becomes by the record with that index
 abbrev pub sent_by_number : Option (List OMAPRecord) → ℕ → ℕ → Option ℕ

@@ -5,6 +5,7 @@ pub mod InOrder
 pub mod PartedRuns
 pub mod Numbers
 pub mod Omap
+pub mod PlaceRun
 pub mod Places
 pub mod Ranges
 pub mod SectionOrder

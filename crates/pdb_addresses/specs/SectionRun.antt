@@ -1,6 +1,7 @@
 -- How far the place of an address goes on.
-use Rattle.std.specs.Prelude.{ℕ, ◌+◌, ◌-◌, min, List, [], ◌∷◌, nat_lt, Option, None, Some}
-use Rattle.std.specs.Prelude.{if◌then◌else◌}
+use Rattle.std.specs.Prelude.{ℕ, ◌+◌, ◌-◌, min, Bool, ◌==◌, List, [], ◌∷◌, nat_lt, Option, None}
+use Rattle.std.specs.Prelude.{Some, if◌then◌else◌}
+use Rattle.std.specs.List.{list_any}
 use Rattle.pdb_addresses.specs.declared.sections.ImageSectionHeader.{ImageSectionHeader}
 use Rattle.pdb_addresses.specs.Places.{Place}
 
@@ -8,6 +9,10 @@ use Rattle.pdb_addresses.specs.Places.{Place}
 abbrev pub bounds : List ImageSectionHeader → List ℕ
 bounds [] = []
 bounds (s ∷ sections) = s.virtual_address ∷ (s.virtual_address + s.virtual_size) ∷ bounds sections
+
+-- whether a section starts or ends at an address
+abbrev pub is_section_bound : List ImageSectionHeader → ℕ → Bool
+is_section_bound sections x = list_any (λ b. x == b) (bounds sections)
 
 -- the lesser of a number and the distance to a bound, if that lies past the address
 abbrev pub nearer : ℕ → ℕ → ℕ → ℕ

@@ -10,6 +10,7 @@ mod internal_rva;
 mod internal_section_offset;
 pub mod laws;
 mod omap;
+mod place_run;
 mod ranges;
 mod rva;
 mod section_list;

@@ -1,15 +1,18 @@
 //! Ranges of addresses, and what they become.
 
-ghost use Rattle.std.specs.Prelude.{◌≡◌, ◌+◌, ◌-◌, ◌<◌, ◌≤◌, length, option_map, option_and_then};
-ghost use Rattle.std.specs.Prelude.{slice_get};
+ghost use Rattle.std.specs.Prelude.{◌≡◌, ℕ, ◌+◌, ◌-◌, ◌<◌, ◌≤◌, true, length, option_map};
+ghost use Rattle.std.specs.Prelude.{option_and_then, slice_get};
 ghost use Rattle.std.specs.Iterator.{at_most};
 ghost use Rattle.pdb_addresses.specs.Addresses.{IsInOrder, IsOrdered};
 ghost use Rattle.pdb_addresses.specs.Cursor.{IsAt, IsAtIn, left_of, next_source as next_source_of};
 ghost use Rattle.pdb_addresses.specs.Cursor.{source_before as source_before_of, sent_by_number};
+ghost use Rattle.pdb_addresses.specs.Cursor.{sent_along};
 ghost use Rattle.pdb_addresses.specs.Cursor.{run_between as run_between_of, run_in_front, GivesRun};
 ghost use Rattle.pdb_addresses.specs.Omap.{source, record_at, records_of};
-ghost use Rattle.pdb_addresses.specs.Omap.{sent_by as sent_by_record};
-ghost use Rattle.pdb_addresses.specs.Ranges.{runs, image_ranges, internal_ranges, GivesNext};
+ghost use Rattle.pdb_addresses.specs.Omap.{sent_by as sent_by_record, translated};
+ghost use Rattle.pdb_addresses.specs.PlaceRun.{begins_record};
+ghost use Rattle.pdb_addresses.specs.Ranges.{number_for, runs, image_ranges, internal_ranges};
+ghost use Rattle.pdb_addresses.specs.Ranges.{GivesNext};
 
 use crate::address_map::AddressMap;
 use crate::internal_rva::PdbInternalRva;
@@ -29,6 +32,7 @@ pub(crate) struct Cursor {
 fn cursor_at(omap: Option<&[OMAPRecord]>, address: u32) -> Cursor
     requires { IsInOrder (records_of omap) }
     ensures at { IsAt (records_of omap.entry) result.number result.address }
+    ensures number { result.number ≡ number_for (records_of omap.entry) address }
     ensures address { result.address ≡ address }
 {
     let number = match omap {
@@ -149,6 +153,23 @@ fn find(omap: Option<&[OMAPRecord]>, at: Cursor, end: u32) -> (Option<Range<u32>
         cursor = next;
     }
     (None, cursor)
+}
+
+/// What an address becomes, and over how many addresses from there on and before `end` addresses go
+/// by its record.
+pub(crate) fn record_run(omap: Option<&[OMAPRecord]>, address: u32, end: u32) -> (Option<u32>, u32)
+    requires order { IsInOrder (records_of omap) }
+    requires some { address < end }
+    ensures some { 1 ≤ result.1 }
+    ensures within { address + result.1 ≤ end }
+    ensures along { (k : ℕ) → k < result.1 → translated (records_of omap.entry) (address + k)
+        ≡ sent_along result.0 k }
+    ensures ends { address + result.1 < end
+        → begins_record (records_of omap.entry) (address + result.1) ≡ true }
+{
+    let cursor = cursor_at(omap, address);
+    let stop = source_before(omap, cursor.number, end).unwrap_or(end);
+    (sent(omap, cursor), stop - address)
 }
 
 /// A walk over the addresses of a range.
