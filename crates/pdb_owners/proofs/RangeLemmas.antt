@@ -170,11 +170,6 @@ module _ {K A : Type 0} (found : K → Option A) where
         omega (arith, a, b);
   }
 
-  -- what the table and the tally are at the end
-  pub record IsWhole (m : Map) (db : Database A) (s e : ℕ) (table : List (K × ℕ)) (before lookups : ℕ) : Type 0 where
-    pub each : (test : A → Bool) → sum_found found test table ≡ how_many (λ a. picked test (counted_at m db a)) s (e - s)
-    pub lookups_most : lookups ≤ before + pieces m db s e
-
   -- no more is counted than there are addresses
   pub so_far_most : (laid : (omap : Option (List OMAPRecord)) (start end : ℕ) → laid_out (runs omap start end) ≡ one_by_one omap start end)
       → (m : Map) (db : Database A) (s e : ℕ) (left : List (Range PdbInternalRva)) (table : List (K × ℕ)) (before lookups : ℕ)
@@ -184,26 +179,35 @@ module _ {K A : Type 0} (found : K → Option A) where
       let b = all_addresses laid m s e in
       omega (arith, a, b)
 
+  -- at the end the table has each address
   pub so_far_end : (laid : (omap : Option (List OMAPRecord)) (start end : ℕ) → laid_out (runs omap start end) ≡ one_by_one omap start end)
       → (m : Map) (db : Database A) (s e : ℕ) (left : List (Range PdbInternalRva)) (table : List (K × ℕ)) (before lookups : ℕ) → e ≤ 2 ^ 32 → left ≡ []
-      → IsSoFar m.internal db (internal_ranges m.to_internal s e) left table before lookups → IsWhole m db s e table before lookups
+      → IsSoFar m.internal db (internal_ranges m.to_internal s e) left table before lookups → IsCounted found (counted_at m db) s (e - s) [] table
   so_far_end laid m db s e left table before lookups low none h =
       let g : IsSoFar m.internal db (internal_ranges m.to_internal s e) [] table before lookups = subst (λ (l : List (Range PdbInternalRva)). IsSoFar m.internal db (internal_ranges m.to_internal s e) l table before lookups) none h in
       record {
         each = λ test. let a = g.each test in let b = ranges_one_by_one laid m db (picked test) s e refl low in omega (arith, a, b);
-        lookups_most = let a = g.lookups_left in omega (arith, a);
+        room = let a = so_far_most laid m db s e left table before lookups h in omega (arith, a);
       }
+
+  -- and a tally rose by no more than there are pieces
+  pub so_far_asked : (m : Map) (db : Database A) (s e : ℕ) (left : List (Range PdbInternalRva)) (table : List (K × ℕ)) (before lookups : ℕ)
+      → IsSoFar m.internal db (internal_ranges m.to_internal s e) left table before lookups → lookups ≤ before + pieces m db s e
+  so_far_asked m db s e left table before lookups h = let a = h.lookups_left in omega (arith, a)
 
 -- the counts of the answers that the keys stand for
 module _ {K A : Type 0} (cmp : A → A → Ordering) (total : IsTotalOrder cmp) (exact : (a b : A) → cmp a b ≡ Equal → a ≡ b) (found : K → Option A)
-    (m : Map) (db : Database A) (s e : ℕ) (keys : List (K × ℕ)) (counts : List (A × ℕ)) (before lookups : ℕ) (whole : IsWhole found m db s e keys before lookups) (resolved : IsResolved found keys counts) where
+    (m : Map) (db : Database A) (s e : ℕ) (keys : List (K × ℕ)) (counts : List (A × ℕ)) (counted : IsCounted found (counted_at m db) s (e - s) [] keys) (resolved : IsResolved found keys counts) where
   pub each_counted : IsTable cmp counts → (f : A) → count_in cmp counts f ≡ count cmp m db s e f
-  each_counted table f = count_is_sum cmp total exact f counts table.order ∙ resolved.each (is_same cmp f) ∙ whole.each (is_same cmp f)
+  each_counted table f = let a = count_is_sum cmp total exact f counts table.order ∙ resolved.each (is_same cmp f) in let b = counted.each (is_same cmp f) in omega (arith, a, b)
 
   -- as many are counted as have an answer
   pub sum_counted : sum_of counts ≡ how_many (λ a. is_some (counted_at m db a)) s (e - s)
-  sum_counted = sym (sum_all counts) ∙ resolved.each (λ _. true) ∙ whole.each (λ _. true)
-      ∙ how_many-along (λ a. picked (λ _. true) (counted_at m db a)) (λ a. is_some (counted_at m db a)) (e - s) s s (λ k lt. picked_any (counted_at m db (s + k)))
+  sum_counted =
+      let a = sym (sum_all counts) ∙ resolved.each (λ _. true) in
+      let b = counted.each (λ _. true) in
+      let c = how_many-along (λ a. picked (λ _. true) (counted_at m db a)) (λ a. is_some (counted_at m db a)) (e - s) s s (λ k lt. picked_any (counted_at m db (s + k))) in
+      omega (arith, a, b, c)
 
   pub most_counted : sum_of counts ≤ e - s
   most_counted =

@@ -1,5 +1,5 @@
 -- What counting run by run adds to a table of keys, and how often it asks.
-use Rattle.std.specs.Prelude.{◌≡◌, ℕ, ◌-◌, List, Some}
+use Rattle.std.specs.Prelude.{◌≡◌, ℕ, ◌-◌, List, [], Some}
 use Rattle.std.specs.declared.cmp.Ordering.{Ordering}
 use Rattle.std.specs.declared.ops.Range.{Range}
 use Rattle.pdb_addresses.specs.Addresses.{Map}
@@ -7,7 +7,8 @@ use Rattle.pdb_addresses.specs.declared.internal_rva.PdbInternalRva.{PdbInternal
 use Rattle.pdb_addresses.specs.declared.internal_section_offset.PdbInternalSectionOffset.{
   PdbInternalSectionOffset,
 }
-use Rattle.pdb_owners.specs.Counts.{answer_along, answer_at, begins, begins_along, count, pieces}
+use Rattle.pdb_owners.specs.Counts.{answer_along, answer_at, begins, begins_along, count}
+use Rattle.pdb_owners.specs.Counts.{counted_at, pieces}
 use Rattle.pdb_owners.specs.Databases.{Keyed, place_of}
 use Rattle.pdb_owners.specs.Table.{IsCounted, IsWithin, count_in}
 
@@ -18,6 +19,11 @@ abbrev pub AreCounts : {K A : Type 0} → (A → A → Ordering) → List (A × 
     → ℕ → ℕ → Type 0
 AreCounts {K} {A} cmp table m keyed s e =
     (f : A) → count_in cmp table f ≡ count cmp m keyed.places s e f
+
+-- a table of keys has the addresses from s on and before e, each with its answer
+abbrev pub CountsAddresses : {K A : Type 0} → Map → Keyed K A → ℕ → ℕ → List (K × ℕ) → Type 0
+CountsAddresses m keyed s e table =
+    IsCounted keyed.answer_of (counted_at m keyed.places) s (e - s) [] table
 
 -- how many addresses of what the addresses from s on and before e become begin a piece
 abbrev pub asked_pieces : {K A : Type 0} → Map → Keyed K A → ℕ → ℕ → ℕ

@@ -2,14 +2,14 @@
 use Rattle.std.specs.Prelude.{ℕ, zero, suc, ◌+◌, ◌-◌, ◌^◌, Bool, false, not, ◌==◌, ◌&&◌, ◌||◌}
 use Rattle.std.specs.Prelude.{is_some, List, [], ◌∷◌, Option, None, Some, option_and_then}
 use Rattle.std.specs.Prelude.{if◌then◌else◌}
-use Rattle.std.specs.List.{list_any}
 use Rattle.std.specs.declared.ops.Range.{Range}
 use Rattle.pdb_addresses.specs.declared.internal_rva.PdbInternalRva.{PdbInternalRva}
 use Rattle.pdb_addresses.specs.declared.sections.ImageSectionHeader.{ImageSectionHeader}
 use Rattle.pdb_addresses.specs.Addresses.{Map, inner, inner_place}
 use Rattle.pdb_addresses.specs.Places.{Place}
 use Rattle.pdb_addresses.specs.Ranges.{internal_ranges}
-use Rattle.pdb_addresses.specs.SectionRun.{bounds, place_on}
+use Rattle.pdb_addresses.specs.SectionRun.{place_on}
+pub use Rattle.pdb_addresses.specs.SectionRun.{is_section_bound}
 use Rattle.pdb_addresses.specs.Sections.{place}
 use Rattle.std.specs.declared.cmp.Ordering.{Ordering}
 use Rattle.pdb_owners.specs.Answers.{is_answer}
@@ -53,10 +53,6 @@ count_without m db other s e =
 -- the answer at an internal address
 abbrev pub answer_at : {A : Type 0} → List ImageSectionHeader → Database A → ℕ → Option A
 answer_at sections db x = option_and_then db.answer (place sections x)
-
--- whether a section starts or ends at an internal address
-abbrev pub is_section_bound : List ImageSectionHeader → ℕ → Bool
-is_section_bound sections x = list_any (λ b. x == b) (bounds sections)
 
 -- whether answers may change at a place
 abbrev pub is_bound_in : {A : Type 0} → Database A → Option Place → Bool

@@ -27,6 +27,6 @@ pub use function::Function;
 pub use function_key::FunctionKey;
 pub use runs::Runs;
 pub use shared_frames::{SharedFrame, SharedFunctionFrames, owned_name};
-pub use sizes::{Sizes, count_runs};
+pub use sizes::{Sizes, count_keys, count_runs};
 pub use table::Counts;
 pub use text::{by_file_text, sizes_text};

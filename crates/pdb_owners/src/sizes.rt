@@ -3,7 +3,8 @@
 ghost use Rattle.std.specs.Prelude.{◌≡◌, ◌+◌, ◌-◌, ◌^◌, ◌<◌, ◌≤◌, true, IfOk, OnOk};
 ghost use Rattle.std.specs.Prelude.{length};
 ghost use Rattle.pdb_addresses.specs.Addresses.{IsOrdered};
-ghost use Rattle.pdb_owners.specs.Counted.{AreCounts, CountsAlong, CountsFrom, CountsRange};
+ghost use Rattle.pdb_owners.specs.Counted.{AreCounts, CountsAddresses, CountsAlong, CountsFrom};
+ghost use Rattle.pdb_owners.specs.Counted.{CountsRange};
 ghost use Rattle.pdb_owners.specs.Counted.{RisesAlong, RisesFrom, RisesOver};
 ghost use Rattle.pdb_owners.specs.Counted.{asked_pieces as asked};
 ghost use Rattle.pdb_owners.specs.Counts.{count_of_none, is_section_bound};
@@ -52,15 +53,41 @@ pub fn count_runs<R: Runs>(
         ≤ R.answered runs.old + asked map.now (R.keyed runs.old) start end) }
     ensures same { R.keyed runs.new ≡ R.keyed runs.old }
 {
+    let keys = count_keys(alloc, map, runs, start, end)?;
+    let counts = resolve(alloc, runs, &keys)?;
+    let none = u64::from(end - start) - counts.total();
+    Ok(Sizes { counts, none })
+}
+
+/// Counts the addresses from `start` on and before `end` by the keys of their answers. It asks at
+/// most once for each piece.
+///
+/// # Errors
+/// `AllocError` when memory runs out.
+pub fn count_keys<R: Runs>(
+    alloc: Global,
+    map: &AddressMap<'_>,
+    runs: &mut R,
+    start: u32,
+    end: u32,
+) -> Result<Counts<R::Key>, AllocError>
+    requires ordered { IsOrdered map.now }
+    requires order { start ≤ end }
+    ensures counted { IfOk result (CountsAddresses map.now (R.keyed runs.old) start end) }
+    ensures lookups { OnOk result (R.lookups runs.new
+        ≤ R.lookups runs.old + asked map.now (R.keyed runs.old) start end) }
+    ensures keys { IfOk result (λ keys. length keys
+        ≤ asked map.now (R.keyed runs.old) start end) }
+    ensures answered { OnOk result (R.answered runs.new ≡ R.answered runs.old) }
+    ensures same { R.keyed runs.new ≡ R.keyed runs.old }
+{
     ranges_laid_end_to_end();
     let mut keys = Counts::new(alloc);
     let mut ranges = map.internal_rva_ranges(Rva(start)..Rva(end));
     while let Some(range) = ranges.next() {
         count_range(alloc, map, runs, &mut keys, range)?;
     }
-    let counts = resolve(alloc, runs, &keys)?;
-    let none = u64::from(end - start) - counts.total();
-    Ok(Sizes { counts, none })
+    Ok(keys)
 }
 
 /// Returns the counts of the answers that keys stand for, each of which is asked for once.

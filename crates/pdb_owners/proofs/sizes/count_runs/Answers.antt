@@ -1,102 +1,51 @@
-use Rattle.std.proofs.Common.{◌-◌, length, ◌∙◌, arith}
-use Rattle.pdb_addresses.specs.Ranges.{internal_ranges}
-use Rattle.pdb_owners.proofs.PlaceLemmas.{counted_same, within_same}
-use Rattle.pdb_owners.proofs.RangeLemmas.{so_far_more, so_far_most, so_far_end, each_counted, most_counted, none_counted}
+use Rattle.std.proofs.Common.{arith}
+use Rattle.pdb_owners.proofs.RangeLemmas.{each_counted, most_counted, none_counted}
 use Rattle.pdb_owners.proofs.ResolveLemmas.{resolved_same}
 use Rattle.pdb_owners.proofs.sizes.count_runs.Goals as goal
 
-pub count_range-requires : goal.count_range-requires
-count_range-requires g c =
-    let keyed = g.R.Runs.keyed c.args.runs.now in
-    let most = so_far_most keyed.answer_of c.ranges_laid_end_to_end.ensures.one_by_one c.args.map.now keyed.places c.args.start c.args.end c.loop-range.ranges c.loop-range.keys
-    (g.R.Runs.lookups c.args.runs.now) (g.R.Runs.lookups c.loop-range.runs) c.loop-range.invariant.so_far in
-    record { room = omega (arith, most) }
-
-pub loop-range-preserved : goal.loop-range-preserved
-loop-range-preserved g c =
-    let keyed = g.R.Runs.keyed c.args.runs.now in
-    let now = g.R.Runs.keyed c.loop-range.runs in
-    let lookups = g.R.Runs.lookups in
-    let sections = c.args.map.now.internal in
-    let r = c.in-Some.range in
-    let i = c.loop-range.invariant in
-    let e = c.in_ok-count_range.ensures in
-    let counted = counted_same keyed now sections r.start.0 (r.end.0 - r.start.0) c.loop-range.keys c.count_range.new.keys i.same e.counted in
-    let within = within_same keyed now sections r.start.0 r.start.0 (r.end.0 - r.start.0) (lookups c.loop-range.runs) (lookups c.count_range.new.runs) i.same e.lookups in
-    let kept = within_same keyed now sections r.start.0 r.start.0 (r.end.0 - r.start.0) (length c.loop-range.keys) (length c.count_range.new.keys) i.same e.keys in
-    record {
-      so_far = so_far_more keyed.answer_of sections keyed.places (internal_ranges c.args.map.now.to_internal c.args.start c.args.end) c.next.new.self c.loop-range.ranges r c.loop-range.keys c.count_range.new.keys
-          (lookups c.args.runs.now) (lookups c.loop-range.runs) (lookups c.count_range.new.runs) c.in-Some.ensures.steps i.so_far counted within;
-      kept = so_far_more keyed.answer_of sections keyed.places (internal_ranges c.args.map.now.to_internal c.args.start c.args.end) c.next.new.self c.loop-range.ranges r c.loop-range.keys c.count_range.new.keys
-          0 (length c.loop-range.keys) (length c.count_range.new.keys) c.in-Some.ensures.steps i.kept counted kept;
-      answered = e.answered ∙ i.answered;
-      same = c.count_range.ensures.same ∙ i.same;
-    }
-
 pub resolve-requires : goal.resolve-requires
 resolve-requires g c =
-    let keyed = g.R.Runs.keyed c.args.runs.now in
-    let most = so_far_most keyed.answer_of c.ranges_laid_end_to_end.ensures.one_by_one c.args.map.now keyed.places c.args.start c.args.end c.loop-range.ranges c.loop-range.keys
-    (g.R.Runs.lookups c.args.runs.now) (g.R.Runs.lookups c.loop-range.runs) c.loop-range.invariant.so_far in
+    let most = c.in_ok-keys.ensures.counted.room in
     record { room = omega (arith, most) }
 
 pub overflow_sub-none : goal.overflow_sub-none
 overflow_sub-none g c =
     let keyed = g.R.Runs.keyed c.args.runs.now in
-    let now = g.R.Runs.keyed c.loop-range.runs in
-    let lookups = g.R.Runs.lookups in
-    let whole = so_far_end keyed.answer_of c.ranges_laid_end_to_end.ensures.one_by_one c.args.map.now keyed.places c.args.start c.args.end c.loop-range.ranges c.loop-range.keys
-    (lookups c.args.runs.now) (lookups c.loop-range.runs) (omega arith) c.in_default.ensures.steps.0 c.loop-range.invariant.so_far in
-    let resolved = resolved_same keyed now c.loop-range.keys c.in_ok-counts.counts c.loop-range.invariant.same c.in_ok-counts.ensures.resolved in
-    let most = most_counted g.R.Found.Ord.cmp g.met.R.Found.Ord.total g.met.R.Found.Countable.exact keyed.answer_of c.args.map.now keyed.places c.args.start c.args.end c.loop-range.keys c.in_ok-counts.counts
-    (lookups c.args.runs.now) (lookups c.loop-range.runs) whole resolved in
+    let resolved = resolved_same keyed (g.R.Runs.keyed c.count_keys.new.runs) c.in_ok-keys.keys c.in_ok-counts.counts c.count_keys.ensures.same c.in_ok-counts.ensures.resolved in
+    let most = most_counted g.R.Found.Ord.cmp g.met.R.Found.Ord.total g.met.R.Found.Countable.exact keyed.answer_of c.args.map.now keyed.places c.args.start c.args.end c.in_ok-keys.keys c.in_ok-counts.counts
+    c.in_ok-keys.ensures.counted resolved in
     let total = c.total.ensures.total in
     omega (arith, most, total)
 
 pub returns-clause-each : goal.returns-clause-each
 returns-clause-each g c =
     let keyed = g.R.Runs.keyed c.args.runs.now in
-    let now = g.R.Runs.keyed c.loop-range.runs in
-    let lookups = g.R.Runs.lookups in
-    let whole = so_far_end keyed.answer_of c.ranges_laid_end_to_end.ensures.one_by_one c.args.map.now keyed.places c.args.start c.args.end c.loop-range.ranges c.loop-range.keys
-    (lookups c.args.runs.now) (lookups c.loop-range.runs) (omega arith) c.in_default.ensures.steps.0 c.loop-range.invariant.so_far in
-    let resolved = resolved_same keyed now c.loop-range.keys c.in_ok-counts.counts c.loop-range.invariant.same c.in_ok-counts.ensures.resolved in
-    each_counted g.R.Found.Ord.cmp g.met.R.Found.Ord.total g.met.R.Found.Countable.exact keyed.answer_of c.args.map.now keyed.places c.args.start c.args.end c.loop-range.keys c.in_ok-counts.counts
-    (lookups c.args.runs.now) (lookups c.loop-range.runs) whole resolved c.total.ensures.table
+    let resolved = resolved_same keyed (g.R.Runs.keyed c.count_keys.new.runs) c.in_ok-keys.keys c.in_ok-counts.counts c.count_keys.ensures.same c.in_ok-counts.ensures.resolved in
+    each_counted g.R.Found.Ord.cmp g.met.R.Found.Ord.total g.met.R.Found.Countable.exact keyed.answer_of c.args.map.now keyed.places c.args.start c.args.end c.in_ok-keys.keys c.in_ok-counts.counts
+    c.in_ok-keys.ensures.counted resolved c.total.ensures.table
 
 pub returns-clause-none : goal.returns-clause-none
 returns-clause-none g c =
     let keyed = g.R.Runs.keyed c.args.runs.now in
-    let now = g.R.Runs.keyed c.loop-range.runs in
-    let lookups = g.R.Runs.lookups in
-    let whole = so_far_end keyed.answer_of c.ranges_laid_end_to_end.ensures.one_by_one c.args.map.now keyed.places c.args.start c.args.end c.loop-range.ranges c.loop-range.keys
-    (lookups c.args.runs.now) (lookups c.loop-range.runs) (omega arith) c.in_default.ensures.steps.0 c.loop-range.invariant.so_far in
-    let resolved = resolved_same keyed now c.loop-range.keys c.in_ok-counts.counts c.loop-range.invariant.same c.in_ok-counts.ensures.resolved in
-    let none = none_counted g.R.Found.Ord.cmp g.met.R.Found.Ord.total g.met.R.Found.Countable.exact keyed.answer_of c.args.map.now keyed.places c.args.start c.args.end c.loop-range.keys c.in_ok-counts.counts
-    (lookups c.args.runs.now) (lookups c.loop-range.runs) whole resolved in
+    let resolved = resolved_same keyed (g.R.Runs.keyed c.count_keys.new.runs) c.in_ok-keys.keys c.in_ok-counts.counts c.count_keys.ensures.same c.in_ok-counts.ensures.resolved in
+    let none = none_counted g.R.Found.Ord.cmp g.met.R.Found.Ord.total g.met.R.Found.Countable.exact keyed.answer_of c.args.map.now keyed.places c.args.start c.args.end c.in_ok-keys.keys c.in_ok-counts.counts
+    c.in_ok-keys.ensures.counted resolved in
     let total = c.total.ensures.total in
     omega (arith, none, total)
 
 pub returns-clause-all : goal.returns-clause-all
 returns-clause-all g c =
     let keyed = g.R.Runs.keyed c.args.runs.now in
-    let now = g.R.Runs.keyed c.loop-range.runs in
-    let lookups = g.R.Runs.lookups in
-    let whole = so_far_end keyed.answer_of c.ranges_laid_end_to_end.ensures.one_by_one c.args.map.now keyed.places c.args.start c.args.end c.loop-range.ranges c.loop-range.keys
-    (lookups c.args.runs.now) (lookups c.loop-range.runs) (omega arith) c.in_default.ensures.steps.0 c.loop-range.invariant.so_far in
-    let resolved = resolved_same keyed now c.loop-range.keys c.in_ok-counts.counts c.loop-range.invariant.same c.in_ok-counts.ensures.resolved in
-    let most = most_counted g.R.Found.Ord.cmp g.met.R.Found.Ord.total g.met.R.Found.Countable.exact keyed.answer_of c.args.map.now keyed.places c.args.start c.args.end c.loop-range.keys c.in_ok-counts.counts
-    (lookups c.args.runs.now) (lookups c.loop-range.runs) whole resolved in
+    let resolved = resolved_same keyed (g.R.Runs.keyed c.count_keys.new.runs) c.in_ok-keys.keys c.in_ok-counts.counts c.count_keys.ensures.same c.in_ok-counts.ensures.resolved in
+    let most = most_counted g.R.Found.Ord.cmp g.met.R.Found.Ord.total g.met.R.Found.Countable.exact keyed.answer_of c.args.map.now keyed.places c.args.start c.args.end c.in_ok-keys.keys c.in_ok-counts.counts
+    c.in_ok-keys.ensures.counted resolved in
     let total = c.total.ensures.total in
     omega (arith, most, total)
 
 -- the keys are no more than the pieces, and each is asked for once
 pub returns-clause-answered : goal.returns-clause-answered
 returns-clause-answered g c =
-    let keyed = g.R.Runs.keyed c.args.runs.now in
-    let kept = so_far_end keyed.answer_of c.ranges_laid_end_to_end.ensures.one_by_one c.args.map.now keyed.places c.args.start c.args.end c.loop-range.ranges c.loop-range.keys
-    0 (length c.loop-range.keys) (omega arith) c.in_default.ensures.steps.0 c.loop-range.invariant.kept in
-    let most = kept.lookups_most in
+    let most = c.in_ok-keys.ensures.keys in
     let asked = c.in_ok-counts.ensures.answered in
-    let before = c.loop-range.invariant.answered in
+    let before = c.in_ok-keys.ensures.answered in
     omega (arith, most, asked, before)

@@ -1,7 +1,7 @@
 use Rattle.std.proofs.Common.{◌≡◌, length}
 use Rattle.pdb_addresses.specs.Ranges.{internal_ranges}
 use Rattle.pdb_owners.proofs.RangeLemmas.{IsSoFar}
-use Rattle.pdb_owners.proofs.sizes.count_runs.Given as goal
+use Rattle.pdb_owners.proofs.sizes.count_keys.Given as goal
 
 -- what is counted so far and what is left of the ranges are the whole
 abbrev pub invariant-loop-range : goal.invariant-loop-range
