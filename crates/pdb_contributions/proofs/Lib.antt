@@ -1,10 +1,14 @@
 pub mod ApartSteps
+pub mod BoundSteps
 pub mod FirstEntry
 pub mod Firsts
 pub mod HeldSteps
+pub mod HolderSteps
 pub mod Lookup
 pub mod MergeSteps
 pub mod Missing
+pub mod NearestBounds
+pub mod NextBounds
 pub mod OnePlace
 pub mod Order
 pub mod PieceSteps

@@ -3,7 +3,7 @@
 use Rattle.std.proofs.Common.{◌≡◌, ◌≢◌, ℕ, ◌<◌, ◌≤◌, not, get_or, Bool, true, false, cond, List, []}
 use Rattle.std.proofs.Common.{◌∷◌, Option, None, Some, length, zero, suc, refl, sym, ap, ◌∙◌, arith}
 use Rattle.std.proofs.Common.{inl, inr}
-use Rattle.std.specs.Prelude.{slice_get, option_and_then, is_some, ◌==◌, if◌then◌else◌}
+use Rattle.std.specs.Prelude.{slice_get, option_and_then, ◌==◌, if◌then◌else◌}
 use Rattle.std.specs.List.{find}
 use Rattle.std.specs.List.Sorted.{IsPartitionPoint, IsPartitionedBy}
 use Rattle.std.proofs.lemmas.Bool.{cases_Bool, cases_lt, eq-eqb, ne_eqb}
@@ -89,18 +89,6 @@ find_is test (g ∷ others) zero f e h before = let same : f ≡ g = cc in let h
 find_is test (g ∷ others) (suc k) f e h before =
     rw (before 0 g (omega arith) refl)
     (find_is test others k f e h (λ i x lt there. before (suc i) x (omega arith) there))
-
--- where an entry is at a place, one is found there
-pub one_is_found : (list : List PublicFunction) (p : Place) (k : ℕ) (f : PublicFunction)
-    → slice_get list k ≡ Some f → is_at p f ≡ true → is_some (public_exactly list p) ≡ true
-one_is_found [] p k f e h = absurd (cc)
-one_is_found (g ∷ others) p zero f e h =
-    let same : f ≡ g = cc in let here : is_at p g ≡ true = ap (is_at p) (sym same) ∙ h in
-    rw here refl
-one_is_found (g ∷ others) p (suc k) f e h = elim (cases_Bool (is_at p g)) [
-  | inl here ↦ rw here refl
-  | inr other ↦ rw other (one_is_found others p k f e h)
-]
 
 last_none : (list : List PublicFunction) (p : Place)
     → ((i : ℕ) (f : PublicFunction) → slice_get list i ≡ Some f → is_at_or_before p f ≡ false)
@@ -316,3 +304,58 @@ split_of list p n bound at = record {
       (ap (λ (g : PublicFunction). not (is_before p g.start_offset)) (sym (at_index list i f e))
       ∙ at.1 i no_entry le (slice_get_within list i f e));
 }
+
+-- ---- the two entries at a split decide all others
+
+begun_first : (p : Place) (f g : PublicFunction) → is_before g.start_offset f.start_offset ≡ true
+    → is_before p f.start_offset ≡ false → is_before p g.start_offset ≡ false
+begun_first p f g b h = grind (arith, nat_tests)
+
+further_back : (p : Place) (f g : PublicFunction) → is_before f.start_offset g.start_offset ≡ true
+    → is_before p f.start_offset ≡ true → is_before p g.start_offset ≡ true
+further_back p f g b h = grind (arith, nat_tests)
+
+-- none up to an entry that doesn't begin after the place begins after it
+pub front_up_to : (list : List PublicFunction) (p : Place) (n : ℕ) (f : PublicFunction) → Rises list
+    → Some f ≡ last_of list n → is_before p f.start_offset ≡ false → (i : ℕ) (g : PublicFunction)
+    → i < n → slice_get list i ≡ Some g → is_before p g.start_offset ≡ false
+front_up_to list p zero f rise e h = absurd (cc)
+front_up_to list p (suc k) f rise e h = λ i g lt x. elim (cases_lt i k) [
+  | inl less ↦ begun_first p f g (rise.each i k g f less x (sym e)) h
+  | inr le ↦ (let at : i ≡ k = omega arith in let same : g ≡ f = cc in
+      ap (λ (o : PublicFunction). is_before p o.start_offset) same ∙ h)
+]
+
+-- where none of the first entries is the last one, there are none
+pub front_none : (list : List PublicFunction) (p : Place) (n : ℕ) → n ≤ length list
+    → None ≡ last_of list n → (i : ℕ) (g : PublicFunction) → i < n → slice_get list i ≡ Some g
+    → is_before p g.start_offset ≡ false
+front_none list p zero bound e = λ i g lt x. absurd (omega arith)
+front_none list p (suc k) bound e =
+    let here = slice_get-get_or list k no_entry (omega arith) in absurd cc
+
+-- all from an entry that begins after the place begin after it
+pub back_from : (list : List PublicFunction) (p : Place) (n : ℕ) (f : PublicFunction) → Rises list
+    → Some f ≡ slice_get list n → is_before p f.start_offset ≡ true → (i : ℕ) (g : PublicFunction)
+    → n ≤ i → slice_get list i ≡ Some g → is_before p g.start_offset ≡ true
+back_from list p n f rise e h = λ i g le x. elim (cases_lt n i) [
+  | inl less ↦ further_back p f g (rise.each n i f g less (sym e) x) h
+  | inr ge ↦ (let at : i ≡ n = omega arith in let same : g ≡ f = cc in
+      ap (λ (o : PublicFunction). is_before p o.start_offset) same ∙ h)
+]
+
+-- no entry is past the last one
+pub back_none : (list : List PublicFunction) (p : Place) (n : ℕ) → None ≡ slice_get list n
+    → (i : ℕ) (g : PublicFunction) → n ≤ i → slice_get list i ≡ Some g
+    → is_before p g.start_offset ≡ true
+back_none list p n e = λ i g le x.
+    (let within : i < length list = slice_get_within list i g x in
+    let here = slice_get-get_or list n no_entry (omega arith) in absurd cc)
+
+-- the list is split where both hold
+pub split_by : (list : List PublicFunction) (p : Place) (n : ℕ) → n ≤ length list
+    → ((i : ℕ) (g : PublicFunction) → i < n → slice_get list i ≡ Some g
+    → is_before p g.start_offset ≡ false)
+    → ((i : ℕ) (g : PublicFunction) → n ≤ i → slice_get list i ≡ Some g
+    → is_before p g.start_offset ≡ true) → IsSplit list p n
+split_by list p n bound front back = record { bound = bound; front = front; back = back }

@@ -1,5 +1,7 @@
--- Pieces of places for contributions: at each place the number of the one that holds it.
-use Rattle.std.specs.Prelude.{◌≡◌, ℕ, ◌+◌, ◌^◌, ◌<◌, List, [], ◌∷◌, slice_get, option_and_then}
+-- How contributions are searched: by pieces of places, with the number of the one that holds each,
+-- and by sorted bounds, or among contributions that lie apart.
+use Rattle.std.specs.Prelude.{◌≡◌, ℕ, ◌+◌, ◌^◌, ◌<◌, ◌≤◌, List, [], ◌∷◌, slice_get, Option, None}
+use Rattle.std.specs.Prelude.{Some, option_and_then}
 use Rattle.pdb_addresses.specs.declared.internal_section_offset.PdbInternalSectionOffset.{
   PdbInternalSectionOffset,
 }
@@ -8,14 +10,24 @@ use Rattle.pdb_pieces.specs.Spans.{best, place_number}
 use Rattle.pdb_contributions.specs.declared.contribution.ModuleSectionContribution.{
   ModuleSectionContribution,
 }
+use Rattle.pdb_contributions.specs.declared.held.SearchTables.{SearchTables}
+use Rattle.pdb_contributions.specs.BoundNumbers.{AreContributionBounds}
 use Rattle.pdb_contributions.specs.MergedContributions.{holder}
+
+-- the place at which a contribution begins, as a number
+abbrev pub start_number : ModuleSectionContribution → ℕ
+start_number c = place_number (record { section = c.section_index; offset = c.start_offset })
+
+-- the place at which a contribution ends, as a number
+abbrev pub end_number : ModuleSectionContribution → ℕ
+end_number c = place_number (record { section = c.section_index; offset = c.end_offset })
 
 -- what a contribution holds; all of one rank, so that the first counts
 abbrev pub contribution_span : ℕ → ModuleSectionContribution → Span
 contribution_span number c =
     record {
-      start = place_number (record { section = c.section_index; offset = c.start_offset });
-      end = place_number (record { section = c.section_index; offset = c.end_offset });
+      start = start_number c;
+      end = end_number c;
       mark = record { rank = 0; value = number };
     }
 
@@ -40,3 +52,17 @@ pub record StandFor (pieces : List Span) (contributions : List ModuleSectionCont
   pub each : (place : PdbInternalSectionOffset) → place.offset < 2 ^ 32
       → option_and_then (λ m. slice_get contributions m.value) (best pieces (place_number place))
       ≡ holder contributions place
+
+-- contributions in ascending order by their places, none before `low`, each of which begins where
+-- the one before it ends or after that; none ends before it begins
+abbrev pub AreApart : ℕ → List ModuleSectionContribution → Type 0
+AreApart low [] = Unit {0}
+AreApart low (c ∷ others) = (low ≤ start_number c) × (start_number c ≤ end_number c)
+    × AreApart (end_number c) others
+
+-- pieces stand for contributions, and bounds are their starts and ends; without these tables the
+-- contributions are short and lie apart
+abbrev pub AreSearchable : List ModuleSectionContribution → Option SearchTables → Type 0
+AreSearchable contributions None = AreApart 0 contributions × AreShort contributions
+AreSearchable contributions (Some tables) = StandFor tables.pieces contributions
+    × AreContributionBounds contributions tables.bounds

@@ -7,8 +7,9 @@ ghost use Rattle.pdb_contributions.specs.MergedContributions.{span_of as span_of
 ghost use Rattle.pdb_contributions.specs.MergedContributions.{is_of_same as are_of_same};
 ghost use Rattle.pdb_contributions.specs.MergedContributions.{up_to as up_to_end};
 ghost use Rattle.pdb_contributions.specs.MergedContributions.{overlaps as do_overlap};
+ghost use Rattle.pdb_contributions.specs.MergedContributions.{holds as does_hold};
 
-use pdb_addresses::ImageSectionHeader;
+use pdb_addresses::{ImageSectionHeader, PdbInternalSectionOffset};
 use pdb_symbols_modules::DBISectionContribution;
 
 /// A section contribution of a module: what it holds of a section, from a start to before an end.
@@ -112,4 +113,16 @@ pub(crate) fn overlaps(a: ModuleSectionContribution, b: ModuleSectionContributio
     ensures { result ≡ do_overlap a b }
 {
     b.section_index == a.section_index && b.start_offset < a.end_offset
+}
+
+/// Whether a contribution holds a place.
+pub(crate) fn holds(
+    place: PdbInternalSectionOffset,
+    contribution: ModuleSectionContribution,
+) -> bool
+    ensures { result ≡ does_hold place contribution }
+{
+    contribution.section_index == place.section
+        && contribution.start_offset <= place.offset
+        && place.offset < contribution.end_offset
 }

@@ -1,7 +1,7 @@
 //! The public list in order, and looking up in it.
 
 ghost use Rattle.std.specs.Prelude.{◌≡◌, IfOk, OnOk, is_some, length, option_map, slice_get};
-ghost use Rattle.std.specs.Prelude.{true};
+ghost use Rattle.std.specs.Prelude.{true, false, ℕ, ◌<◌, ◌≤◌, Some};
 ghost use Rattle.pdb_contributions.specs.Publics.{public_list, publics_among, with_missing};
 ghost use Rattle.pdb_contributions.specs.Publics.{missing, public_exactly, public_over, next_public};
 ghost use Rattle.pdb_contributions.specs.Publics.{is_at as at_place, is_before as comes_before};
@@ -113,8 +113,24 @@ fn last_at_or_before<'f, 's>(
     Some(last)
 }
 
-/// The entry of a list in order at exactly a place.
+/// The entry of a list in order at exactly a place, by how many begin at the place or before it.
 #[tactic(auto, using(crate::proofs::Lookup::exactly_found, crate::proofs::Lookup::exactly_other, crate::proofs::Lookup::exactly_nothing))]
+fn last_at<'f, 's>(
+    functions: &'f [PublicFunction<'s>],
+    count: usize,
+    place: PdbInternalSectionOffset,
+) -> Option<&'f PublicFunction<'s>>
+    requires rises { Rises functions.now }
+    requires split { IsSplit functions.now place count }
+    ensures { option_map (λ f. f.now) result ≡ public_exactly functions.now place }
+{
+    let Some(last) = last_of(functions, count) else {
+        return None;
+    };
+    if is_at(place, last) { Some(last) } else { None }
+}
+
+/// The entry of a list in order at exactly a place.
 fn exactly_at<'f, 's>(
     functions: &'f [PublicFunction<'s>],
     place: PdbInternalSectionOffset,
@@ -122,10 +138,7 @@ fn exactly_at<'f, 's>(
     requires { Rises functions.now }
     ensures { option_map (λ f. f.now) result ≡ public_exactly functions.now place }
 {
-    let Some(last) = last_of(functions, count_up_to(functions, place)) else {
-        return None;
-    };
-    if is_at(place, last) { Some(last) } else { None }
+    last_at(functions, count_up_to(functions, place), place)
 }
 
 /// The next entry of an ordered list after a place, in its section.
@@ -146,46 +159,94 @@ fn first_behind<'f, 's>(
     Some(next)
 }
 
-/// Whether an entry of a list in order begins at a place.
-fn begins_at(functions: &[PublicFunction<'_>], place: PdbInternalSectionOffset) -> bool
-    requires { Rises functions.now }
-    ensures { result ≡ is_some (public_exactly functions.now place) }
+/// Whether the first `count` entries of a list in order begin at a place or before it: the last of
+/// them decides.
+#[tactic(auto, using(crate::proofs::Lookup::front_up_to, crate::proofs::Lookup::front_none))]
+fn all_begun(
+    functions: &[PublicFunction<'_>],
+    count: usize,
+    place: PdbInternalSectionOffset,
+) -> bool
+    requires rises { Rises functions.now }
+    requires bound { count ≤ length functions.now }
+    ensures { result ≡ true → (i : ℕ) (f : _) → i < count → slice_get functions.now i ≡ Some f
+        → comes_before place f.start_offset ≡ false }
 {
-    exactly_at(functions, place).is_some()
+    match last_of(functions, count) {
+        None => true,
+        Some(last) => !is_before(place, last.start_offset),
+    }
 }
 
-/// Whether the entry with that number, counted from 0, is there and begins at a place.
-#[tactic(auto, using(crate::proofs::Lookup::one_is_found))]
-fn is_number_at(
+/// Whether the entries of a list in order from the number `count` on begin after a place: the first
+/// of them decides.
+#[tactic(auto, using(crate::proofs::Lookup::back_from, crate::proofs::Lookup::back_none))]
+fn others_follow(
+    functions: &[PublicFunction<'_>],
+    count: usize,
+    place: PdbInternalSectionOffset,
+) -> bool
+    requires { Rises functions.now }
+    ensures { result ≡ true → (i : ℕ) (f : _) → count ≤ i → slice_get functions.now i ≡ Some f
+        → comes_before place f.start_offset ≡ true }
+{
+    match entry_at(functions, count) {
+        None => true,
+        Some(next) => is_before(place, next.start_offset),
+    }
+}
+
+/// Whether that many entries of a list in order begin at a place or before it, and all others after
+/// it.
+#[tactic(auto, using(crate::proofs::Lookup::split_by))]
+fn is_split_at(
     functions: &[PublicFunction<'_>],
     number: usize,
     place: PdbInternalSectionOffset,
 ) -> bool
-    ensures { result ≡ true → is_some (public_exactly functions.now place) ≡ true }
+    requires { Rises functions.now }
+    ensures { result ≡ true → IsSplit functions.now place number }
 {
-    match entry_at(functions, number) {
-        None => false,
-        Some(function) => is_at(place, function),
+    if number > functions.len() || !all_begun(functions, number, place) {
+        return false;
     }
+    others_follow(functions, number, place)
 }
 
-/// Whether an entry of a list in order begins at a place. The one with the number `next` is looked
-/// at first, and then that number is of the entry after the place: places that are asked for in
-/// order mostly take one step each.
+/// How many entries of a list in order begin at a place or before it. The number `guess` is tried
+/// first, then the one after it: places that are asked for in order take one step or two each,
+/// others a binary search.
+fn count_from(
+    functions: &[PublicFunction<'_>],
+    guess: usize,
+    place: PdbInternalSectionOffset,
+) -> usize
+    requires { Rises functions.now }
+    ensures { IsSplit functions.now place result }
+{
+    if is_split_at(functions, guess, place) {
+        return guess;
+    }
+    let following = guess.saturating_add(1);
+    if is_split_at(functions, following, place) {
+        return following;
+    }
+    count_up_to(functions, place)
+}
+
+/// Whether an entry of a list in order begins at a place. `count` is how many entries begin at the
+/// place asked for last or before it, and then at this one: places that are asked for in order
+/// take one step or two each.
 fn begins_next(
     functions: &[PublicFunction<'_>],
-    next: &mut usize,
+    count: &mut usize,
     place: PdbInternalSectionOffset,
 ) -> bool
     requires { Rises functions.now }
     ensures { result ≡ is_some (public_exactly functions.now place) }
 {
-    if is_number_at(functions, *next, place) {
-        *next = next.saturating_add(1);
-        return true;
-    }
-    *next = count_up_to(functions, place);
-    begins_at(functions, place)
+    *count = count_from(functions, *count, place);
+    last_at(functions, *count, place).is_some()
 }
 
 /// The places at which no entry of a list in order begins.
@@ -199,9 +260,9 @@ fn missing_among(
     ensures { IfOk result (λ v. v.items ≡ missing functions.now starts.now) }
 {
     let mut places = Vec::new(alloc);
-    let mut next = 0;
+    let mut count = 0;
     for start in starts {
-        if !begins_next(functions, &mut next, *start) {
+        if !begins_next(functions, &mut count, *start) {
             places.push(*start)?;
         }
     }

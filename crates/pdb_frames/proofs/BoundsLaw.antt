@@ -22,7 +22,8 @@ use Rattle.pdb_frames.specs.FrameRuns.{cuts_here, frames_of_places}
 use Rattle.pdb_frames.specs.Runs.{procedures_of, is_bound, database_of}
 use Rattle.pdb_frames.specs.Scopes.{Scope}
 use Rattle.pdb_owners.specs.Databases as databases
-use Rattle.pdb_known_modules.specs.SectionBounds.{contribution_bounds, procedure_bounds}
+use Rattle.pdb_contributions.specs.SectionBounds.{contribution_bounds}
+use Rattle.pdb_known_modules.specs.SectionBounds.{procedure_bounds}
 
 -- ---- the place after another one
 

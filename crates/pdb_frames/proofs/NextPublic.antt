@@ -8,7 +8,7 @@ use Rattle.pdb_addresses.specs.declared.internal_section_offset.PdbInternalSecti
 use Rattle.pdb_addresses.specs.SectionRun.{nearer, up_to_next}
 use Rattle.pdb_contributions.specs.Publics.{PublicFunction, Rises, is_before, is_behind, next_public}
 use Rattle.pdb_frames.specs.NearBounds.{public_bounds}
-use Rattle.pdb_known_modules.proofs.NextBounds.{last_asked}
+use Rattle.pdb_contributions.proofs.NextBounds.{last_asked}
 
 abbrev Place : Type 0
 Place = PdbInternalSectionOffset

@@ -17,7 +17,8 @@ use Rattle.pdb_frames.specs.Scopes.{Scope}
 use Rattle.pdb_frames.specs.FramesAt.{function_at, function_of}
 use Rattle.pdb_known_modules.specs.KnownModules.{module_data, procedures_in}
 use Rattle.pdb_owners.specs.Databases.{IsOneRun, place_of}
-use Rattle.pdb_known_modules.specs.SectionBounds.{if_there, contribution_bounds, procedure_bounds}
+use Rattle.pdb_contributions.specs.SectionBounds.{if_there, contribution_bounds}
+use Rattle.pdb_known_modules.specs.SectionBounds.{procedure_bounds}
 use Rattle.pdb_frames.specs.NearBounds.{public_bounds, bounds_near}
 use Rattle.pdb_frames.specs.Runs.{procedures_of, is_bound, database_of}
 

@@ -7,7 +7,8 @@ use Rattle.pdb_addresses.specs.declared.internal_section_offset.PdbInternalSecti
 }
 use Rattle.pdb_contributions.specs.Publics.{PublicFunction}
 use Rattle.pdb_module_data.specs.Procedures.{Procedure}
-use Rattle.pdb_known_modules.specs.SectionBounds.{contribution_bounds, procedure_bounds}
+use Rattle.pdb_contributions.specs.SectionBounds.{contribution_bounds}
+use Rattle.pdb_known_modules.specs.SectionBounds.{procedure_bounds}
 use Rattle.pdb_frames.specs.Choice.{Parts}
 use Rattle.pdb_known_modules.specs.KnownModules.{ModuleData, procedures_in}
 

@@ -17,7 +17,6 @@ use pdb_contributions::{
     check_symbols, compute_section_contributions, compute_section_contributions_in_any_order,
     read_public_symbols,
 };
-use pdb_known_modules::{SortedBounds, contribution_bounds};
 use pdb_module_data::FileNames;
 use pdb_resolving::Result;
 use pdb_symbol_records::SymbolTable;
@@ -42,8 +41,6 @@ pub struct ContextParts<'a, 's> {
     pub address_map: &'a AddressMap<'s>,
     /// The contributions of modules to sections, in order and apart.
     pub contributions: HeldPlaces,
-    /// The offsets at which contributions begin and end.
-    pub bounds: SortedBounds,
     /// The public list.
     pub publics: PublicList<'a>,
     /// The names of the string table (`/names`), if there is one.
@@ -52,7 +49,6 @@ pub struct ContextParts<'a, 's> {
 
 impl<'a, 's> Model for ContextParts<'a, 's> {
     ghost use Rattle.pdb_addresses.specs.Addresses.{IsOrdered};
-    ghost use Rattle.pdb_known_modules.specs.Bounds.{AreContributionBounds};
     ghost use Rattle.pdb_frames.specs.Choice as choice;
 
     ghost Value = { choice.Parts };
@@ -64,9 +60,8 @@ impl<'a, 's> Model for ContextParts<'a, 's> {
       names = p.names;
     } };
 
-    // The OMAPs are in order, and the bounds are those of the contributions.
-    ghost invariant = { λ p. IsOrdered p.address_map.now
-        × AreContributionBounds p.contributions p.bounds };
+    // The OMAPs are in order.
+    ghost invariant = { λ p. IsOrdered p.address_map.now };
 }
 
 impl<'a, 's> Drop for ContextParts<'a, 's> {
@@ -74,12 +69,10 @@ impl<'a, 's> Drop for ContextParts<'a, 's> {
         let ContextParts {
             address_map: _,
             contributions,
-            bounds,
             publics,
             names,
         } = self;
         drop(contributions);
-        drop(bounds);
         drop(publics);
         drop(names);
     }
@@ -121,13 +114,11 @@ impl<'a, 's> ContextParts<'a, 's> {
             later_starts,
         } = held;
         let publics = PublicList::new(functions, later_starts.as_slice(), sections)?;
-        let bounds = contribution_bounds(alloc, contributions.as_slice())?;
         let contributions = HeldPlaces::new(alloc, contributions)?;
         let names = FileNames::new(alloc, string_table)?;
         Ok(ContextParts {
             address_map,
             contributions,
-            bounds,
             publics,
             names,
         })

@@ -14,7 +14,6 @@ use pdb_resolving::ModuleTables;
 
 /// Returns the lesser of `far` and the distance from a place to the next start or end of a
 /// contribution.
-#[tactic(auto, using(pdb_known_modules::proofs::BoundSteps::contributions_alike))]
 fn to_next_contribution(
     parts: &ContextParts<'_, '_>,
     place: PdbInternalSectionOffset,
@@ -22,7 +21,7 @@ fn to_next_contribution(
 ) -> u32
     ensures { result ≡ up_to_next (contributions_near parts.now place) place.offset far }
 {
-    parts.bounds.up_to_next(place, far)
+    parts.contributions.to_next_bound(place, far)
 }
 
 /// Returns the lesser of `far` and the distance from a place to the next start or end of a module's
@@ -69,7 +68,7 @@ fn to_next_of_all_modules(
 
 /// Returns the lesser of `limit` and the distance from a place that no module holds to the next
 /// place at which an answer may change.
-#[tactic(auto, using(pdb_known_modules::proofs::NextBounds::next_of_two))]
+#[tactic(auto, using(pdb_contributions::proofs::NextBounds::next_of_two))]
 pub fn to_next_shared_bound(
     parts: &ContextParts<'_, '_>,
     place: PdbInternalSectionOffset,
@@ -82,7 +81,7 @@ pub fn to_next_shared_bound(
 
 /// Returns the lesser of `limit` and the distance from a place to the next place at which an answer
 /// may change, by the data of the module that holds it.
-#[tactic(auto, using(pdb_known_modules::proofs::NextBounds::next_of_all))]
+#[tactic(auto, using(pdb_contributions::proofs::NextBounds::next_of_all))]
 pub fn to_next_bound<I: ModuleTables>(
     parts: &ContextParts<'_, '_>,
     known: Option<&BasicModuleInfo<'_, I>>,

@@ -4,5 +4,4 @@ pub mod KeptSlots
 pub mod KeptProcedures
 pub mod KeptRows
 pub mod KeptSteps
-pub mod NextBounds
 pub mod SitesSteps

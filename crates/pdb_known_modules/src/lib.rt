@@ -1,8 +1,7 @@
 //! One cache of modules that were asked for. It has a place for each, in which stands what was read
 //! of it: the data of its stream, its line program and inlinees, its line rows by subsection, and
-//! the data of its procedures. The crate also says where contributions and procedures begin and end
-//! in sections, and how far it is to the next such place. It knows no names and no addresses of an
-//! image.
+//! the data of its procedures. The crate also says where procedures begin and end in sections, and
+//! how far it is to the next such place. It knows no names and no addresses of an image.
 //!
 //! What is cached, and when it is forgotten, may change, since no answer shows it. What a module
 //! has at a place may not.
@@ -16,7 +15,7 @@ mod procedure_data;
 mod slots;
 mod subsection_rows;
 
-pub use bounds::{SortedBounds, contribution_bounds, procedure_bounds};
+pub use bounds::procedure_bounds;
 pub use kept::{
     CachedModules, keep_lines, keep_module, keep_procedure, keep_public_rows, known_at,
     nothing_cached,

@@ -15,12 +15,13 @@ ghost use Rattle.pdb_known_modules.specs.KnownModules.{module_data, own_of};
 ghost use Rattle.pdb_known_modules.specs.KnownModules.{procedures_in as procedures_of_module};
 ghost use Rattle.pdb_known_modules.specs.KnownModules.{IsNumberOver};
 
-use crate::bounds::{SortedBounds, procedure_bounds};
+use crate::bounds::procedure_bounds;
 use crate::procedure_data::{KeptProcedure, LentProcedure, procedure_ranges};
 use crate::slots::{empty_all, empty_slots, slot_at};
 use crate::subsection_rows::SubsectionRows;
 use pdb_addresses::PdbInternalSectionOffset;
 use pdb_container::{Error, Result};
+use pdb_contributions::SortedBounds;
 use pdb_lines::LineProgram;
 use pdb_module_data::{FunctionRows, Inlinees, Procedure, Procedures, memory_of};
 use pdb_resolving::{ModuleProvider, ModuleTables};

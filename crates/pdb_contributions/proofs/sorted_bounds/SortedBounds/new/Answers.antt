@@ -1,5 +1,5 @@
 use Rattle.std.proofs.lemmas.List.Sorted.{IsNonDecreasingBy-from_sort}
-use Rattle.pdb_known_modules.proofs.bounds.SortedBounds.new.Goals as goal
+use Rattle.pdb_contributions.proofs.sorted_bounds.SortedBounds.new.Goals as goal
 
 pub invariant_of-result : goal.invariant_of-result
 invariant_of-result c =

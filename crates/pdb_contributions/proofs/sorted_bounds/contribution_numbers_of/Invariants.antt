@@ -1,7 +1,7 @@
 use Rattle.std.proofs.Common.{◌≡◌, ◌++◌, drop}
 use Rattle.std.specs.List.{flat_map}
-use Rattle.pdb_known_modules.specs.Bounds.{contribution_numbers}
-use Rattle.pdb_known_modules.proofs.bounds.contribution_numbers_of.Given as goal
+use Rattle.pdb_contributions.specs.BoundNumbers.{contribution_numbers}
+use Rattle.pdb_contributions.proofs.sorted_bounds.contribution_numbers_of.Given as goal
 
 -- the numbers so far, before those of the contributions that are left
 abbrev pub invariant-loop-contribution : goal.invariant-loop-contribution

@@ -3,8 +3,8 @@ use Rattle.std.proofs.lemmas.List.{map-id}
 use Rattle.pdb_addresses.specs.SectionRun.{up_to_next}
 use Rattle.pdb_pieces.specs.Halving.{Ascend}
 use Rattle.pdb_pieces.proofs.Next.{sorted_ascend}
-use Rattle.pdb_known_modules.specs.Bounds.{bound_number}
-use Rattle.pdb_known_modules.proofs.bounds.SortedBounds.up_to_next.Goals as goal
+use Rattle.pdb_contributions.specs.BoundNumbers.{bound_number}
+use Rattle.pdb_contributions.proofs.sorted_bounds.SortedBounds.up_to_next.Goals as goal
 
 pub to_next-requires : goal.to_next-requires
 to_next-requires c =
