@@ -4,6 +4,7 @@ pub mod FileKeySteps
 pub mod FileRunFaults
 pub mod FileSteps
 pub mod FrameRunSteps
+pub mod HolderSteps
 pub mod KeptSteps
 pub mod KeySteps
 pub mod KnownSteps

@@ -1,6 +1,6 @@
 -- What a symbolizer answers at places.
-use Rattle.std.specs.Prelude.{◌≡◌, ◌||◌, ℕ, Bool, Option, Some, Result, Ok, IfOk, IfSome}
-use Rattle.std.specs.Prelude.{option_and_then, option_copied, slice_get}
+use Rattle.std.specs.Prelude.{◌≡◌, ℕ, Option, Some, Result, Ok, IfOk, option_and_then}
+use Rattle.std.specs.Prelude.{option_copied}
 use Rattle.pdb_addresses.specs.declared.internal_section_offset.PdbInternalSectionOffset.{
   PdbInternalSectionOffset,
 }
@@ -17,9 +17,9 @@ use Rattle.pdb_frames.specs.ChosenSeen.{chosen_seen}
 use Rattle.pdb_frames.specs.declared.choice.Chosen as chosen
 use Rattle.pdb_frames.specs.declared.file_runs.Stretch.{Stretch}
 use Rattle.pdb_frames.specs.Env.{Env}
-use Rattle.pdb_frames.specs.Failing.{Part, ProcedureInlineRanges, ProcedureLines}
+use Rattle.pdb_frames.specs.Failing.{Part}
 use Rattle.pdb_frames.specs.Failing.{failing_at, failing_if_held}
-use Rattle.pdb_frames.specs.FailingParts.{Failures, failed_after, failing_in, has_failed, told}
+use Rattle.pdb_frames.specs.FailingParts.{Failures, failed_after, failing_in, told}
 use Rattle.pdb_frames.specs.FileRuns.{file_run_at, file_run_of, run_reported}
 use Rattle.pdb_frames.specs.Files.{file_here, files_of}
 use Rattle.pdb_frames.specs.FrameRuns.{cuts_in, frames_here, frames_of_places, frames_run_at}
@@ -37,7 +37,6 @@ use Rattle.pdb_owners.specs.FileAnswers.{FileAnswer}
 use Rattle.pdb_owners.specs.Frames.{FunctionFrames}
 use Rattle.pdb_owners.specs.FunctionOrder.{Function}
 use Rattle.pdb_known_modules.specs.KnownModules.{ModuleData, procedures_in}
-use Rattle.pdb_module_data.specs.Procedures.{Procedure}
 use Rattle.pdb_resolving.specs.declared.error.Error.{Error}
 use Rattle.pdb_resolving.specs.Fault.{Answers, Fault}
 use Rattle.pdb_resolving.specs.Resolving.{Provided}
@@ -113,16 +112,6 @@ StayFailuresAt found old new = StayFailuresOf found.module_index found.known old
 
 abbrev pub StayFailuresOver : Stretch → Option ModuleData → KnownFailures → KnownFailures → Type 0
 StayFailuresOver stretch known old new = StayFailuresOf stretch.module_index known old new
-
--- whether the line rows or the inline sites of a procedure stand as failed
-abbrev pub stands_failed : Failures → ℕ → Procedure → Bool
-stands_failed failed number q = has_failed failed (ProcedureLines number q.offset)
-    || has_failed failed (ProcedureInlineRanges number q.offset)
-
--- what was returned says so of the procedure with that number in a module, if there is one
-abbrev pub SaysWhetherFailed : Failures → ℕ → Option ModuleData → ℕ → Bool → Type 0
-SaysWhetherFailed failed m known number result =
-    IfSome (slice_get (procedures_in known) number) (λ q. result ≡ stands_failed failed m q)
 
 -- a call gave the function that was chosen, by what names it
 abbrev pub AnswersFunction : Parts → Env → chosen.Chosen → Result (Option Function) Error → Type 0

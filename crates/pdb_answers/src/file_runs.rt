@@ -6,26 +6,23 @@ ghost use Rattle.pdb_answers.specs.FileOrNothing.{file_or_nothing};
 ghost use Rattle.pdb_answers.specs.PlaceAnswers.{GivesKey, IsRunOf, RunsFile, RunsFileGiven};
 ghost use Rattle.pdb_answers.specs.PlaceAnswers.{StayFailuresOf, StayFailuresOver, file_on};
 ghost use Rattle.pdb_answers.specs.PlaceAnswers.{file_run_held, files_in};
-ghost use Rattle.pdb_frames.specs.Choice.{NumbersOver, start_address};
+ghost use Rattle.pdb_frames.specs.Choice.{start_address};
 ghost use Rattle.pdb_frames.specs.FileRuns.{run_if_addressed as addressed_run};
 ghost use Rattle.pdb_frames.specs.Files.{file_by, if_any};
 ghost use Rattle.pdb_frames.specs.ChosenSeen.{chosen_seen};
 ghost use Rattle.pdb_owners.specs.FileAnswers.{file_seen};
-ghost use Rattle.pdb_known_modules.specs.CachedModules.{known_in};
-ghost use Rattle.pdb_known_modules.specs.KnownModules.{procedures_in};
 ghost use Rattle.pdb_resolving.specs.Fault.{Answers};
 
-use crate::cached_parts::{HeldPlace, keep_parts};
 use crate::known_failures::KnownFailures;
 use crate::symbolizer::PlaceSymbolizer;
 use pdb_addresses::PdbInternalSectionOffset;
 use pdb_container::StringRef;
 use pdb_contributions::ModuleSectionContribution;
 use pdb_frames::{
-    Chosen, ContextParts, Failures, Stretch, choose, failing_in, file_named, file_run_in,
-    to_next_bound, to_next_shared_bound,
+    Chosen, ContextParts, Stretch, choose, failing_in, file_named, file_run_in, to_next_bound,
+    to_next_shared_bound,
 };
-use pdb_known_modules::{BasicModuleInfo, CachedModules, keep_module, known_at, number_over};
+use pdb_known_modules::{BasicModuleInfo, known_at};
 use pdb_owners::{CountedFile, FileAnswer, FileKey};
 use pdb_resolving::{Error, ModuleProvider, ModuleTables, Result};
 use std::alloc::{AllocError, Global};
@@ -110,46 +107,6 @@ fn run_unless_known<I: ModuleTables>(
     }
 }
 
-/// Whether a part of the function at a place is known to be unreadable. No clause says so: it only
-/// saves reading.
-fn is_known_unreadable<'c, 'a, I: ModuleTables>(
-    parts: &'c ContextParts<'a, '_>,
-    known_failures: &KnownFailures,
-    known: Option<&'c BasicModuleInfo<'a, I>>,
-    held: HeldPlace,
-) -> bool
-    requires { NumbersOver (procedures_in (option_copied known)) held.number held.place }
-{
-    match choose(parts, known, held.number, held.contribution, held.place) {
-        None => false,
-        Some(chosen) => {
-            let module_index = held.contribution.module_index();
-            known_failures.part(module_index, chosen).is_some()
-        }
-    }
-}
-
-/// Reads what the file at a place is found by, and caches it, unless a part of it is known to be
-/// unreadable.
-pub(crate) fn keep_rows<'a, I: ModuleTables>(
-    alloc: Global,
-    cached: &mut CachedModules<'a, I>,
-    parts: &ContextParts<'a, '_>,
-    failed: &Failures,
-    known_failures: &KnownFailures,
-    held: HeldPlace,
-) -> std::result::Result<(), AllocError>
-    requires { NumbersOver (procedures_in (known_in cached.old held.contribution.module_index))
-        held.number held.place }
-    ensures { cached.new ≡ cached.old }
-{
-    let known = known_at(cached, usize::from(held.contribution.module_index()));
-    if is_known_unreadable(&*parts, known_failures, known, held) {
-        return Ok(());
-    }
-    keep_parts(alloc, cached, parts, failed, held)
-}
-
 impl<'a, 's, P: ModuleProvider> PlaceSymbolizer<'a, 's, P> {
     /// Returns the run at a place that a contribution holds, by the key of its file and its length.
     #[tactic(auto, unfolding(crate::specs::KnownFailures::data_of_modules))]
@@ -164,27 +121,18 @@ impl<'a, 's, P: ModuleProvider> PlaceSymbolizer<'a, 's, P> {
         ensures run { IfOk result
             (λ run. run ≡ file_run_held P.provided self.old contribution place limit) }
     {
-        let module_index = contribution.module_index();
-        let modules = self.namer.modules();
-        let cache_place = usize::from(module_index);
-        keep_module(alloc, &mut self.cached, self.provider, modules, cache_place)?;
-        let number = number_over(known_at(&self.cached, cache_place), place);
-        let held = HeldPlace {
+        let number = self.data.keep_place(
+            alloc,
+            &self.namer,
+            &self.known_failures,
             contribution,
             place,
-            number,
-        };
-        keep_rows(
-            alloc,
-            &mut self.cached,
-            &self.parts,
-            &self.failed,
-            &self.known_failures,
-            held,
         )?;
-        let known = known_at(&self.cached, cache_place);
-        let far = to_next_bound(&self.parts, known, place, limit);
-        let Some(chosen) = choose(&self.parts, known, number, contribution, place) else {
+        let data = &self.data;
+        let module_index = contribution.module_index();
+        let known = known_at(&data.cached, usize::from(module_index));
+        let far = to_next_bound(&data.parts, known, place, limit);
+        let Some(chosen) = choose(&data.parts, known, number, contribution, place) else {
             return Ok((None, far));
         };
         let stretch = Stretch {
@@ -194,7 +142,7 @@ impl<'a, 's, P: ModuleProvider> PlaceSymbolizer<'a, 's, P> {
         };
         run_unless_known(
             alloc,
-            &self.parts,
+            &data.parts,
             &mut self.known_failures,
             known,
             chosen,
@@ -221,8 +169,8 @@ impl<'a, 's, P: ModuleProvider> PlaceSymbolizer<'a, 's, P> {
             (if_any (file_on P.provided self.old place)) result }
         ensures count { IsRunOf (files_in P.provided self.old) place limit result }
     {
-        match self.parts.holding_contribution(place) {
-            None => Ok((None, to_next_shared_bound(&self.parts, place, limit))),
+        match self.data.parts.holding_contribution(place) {
+            None => Ok((None, to_next_shared_bound(&self.data.parts, place, limit))),
             Some(contribution) => {
                 let found = self.file_key_run_at(alloc, contribution, place, limit)?;
                 Ok(found)
@@ -240,7 +188,7 @@ impl<'a, 's, P: ModuleProvider> PlaceSymbolizer<'a, 's, P> {
         let answer = match key {
             FileKey::Unreadable => FileAnswer::Unreadable,
             FileKey::NoFile => FileAnswer::NoFile,
-            FileKey::Name(offset) => file_named(alloc, &self.parts, StringRef(*offset))?,
+            FileKey::Name(offset) => file_named(alloc, &self.data.parts, StringRef(*offset))?,
         };
         Ok(Some(CountedFile { answer }))
     }

@@ -6,8 +6,7 @@ ghost use Rattle.pdb_answers.specs.PlaceAnswers.{found_seen, frames_in, frames_o
 ghost use Rattle.pdb_answers.specs.PlaceAnswers.{frames_run_held, run_found};
 ghost use Rattle.pdb_resolving.specs.Fault.{Answers};
 
-use crate::cached_parts::HeldPlace;
-use crate::file_runs::{keep_failure, keep_rows};
+use crate::file_runs::keep_failure;
 use crate::frames::{ChosenPlace, chosen_frames};
 use crate::known_failures::KnownFailures;
 use crate::symbolizer::PlaceSymbolizer;
@@ -16,7 +15,7 @@ use pdb_contributions::ModuleSectionContribution;
 use pdb_frames::{
     ContextParts, Namer, Stretch, choose, frames_count_in, to_next_bound, to_next_shared_bound,
 };
-use pdb_known_modules::{keep_module, known_at, number_over};
+use pdb_known_modules::known_at;
 use pdb_owners::SharedFunctionFrames;
 use pdb_resolving::{Error, ModuleProvider, Result};
 use std::alloc::{AllocError, Global};
@@ -100,27 +99,18 @@ impl<'a, 's, P: ModuleProvider> PlaceSymbolizer<'a, 's, P> {
         ensures run { IfOk result
             (λ run. run ≡ frames_run_held P.provided self.old contribution place limit) }
     {
-        let module_index = contribution.module_index();
-        let modules = self.namer.modules();
-        let cache_place = usize::from(module_index);
-        keep_module(alloc, &mut self.cached, self.provider, modules, cache_place)?;
-        let number = number_over(known_at(&self.cached, cache_place), place);
-        let held = HeldPlace {
+        let number = self.data.keep_place(
+            alloc,
+            &self.namer,
+            &self.known_failures,
             contribution,
             place,
-            number,
-        };
-        keep_rows(
-            alloc,
-            &mut self.cached,
-            &self.parts,
-            &self.failed,
-            &self.known_failures,
-            held,
         )?;
-        let known = known_at(&self.cached, cache_place);
-        let far = to_next_bound(&self.parts, known, place, limit);
-        let Some(chosen) = choose(&self.parts, known, number, contribution, place) else {
+        let data = &self.data;
+        let module_index = contribution.module_index();
+        let known = known_at(&data.cached, usize::from(module_index));
+        let far = to_next_bound(&data.parts, known, place, limit);
+        let Some(chosen) = choose(&data.parts, known, number, contribution, place) else {
             return Ok((None, far));
         };
         let found = ChosenPlace {
@@ -132,7 +122,7 @@ impl<'a, 's, P: ModuleProvider> PlaceSymbolizer<'a, 's, P> {
         };
         run_unless_known(
             alloc,
-            &self.parts,
+            &data.parts,
             &mut self.namer,
             &mut self.known_failures,
             &found,
@@ -159,8 +149,8 @@ impl<'a, 's, P: ModuleProvider> PlaceSymbolizer<'a, 's, P> {
         ensures frames { Answers (λ run. run.0) result (Ok (frames_on P.provided self.old place)) }
         ensures count { IsRunOf (frames_in P.provided self.old) place limit result }
     {
-        match self.parts.holding_contribution(place) {
-            None => Ok((None, to_next_shared_bound(&self.parts, place, limit))),
+        match self.data.parts.holding_contribution(place) {
+            None => Ok((None, to_next_shared_bound(&self.data.parts, place, limit))),
             Some(contribution) => {
                 let found = self.frames_run_at(alloc, contribution, place, limit)?;
                 Ok(found)

@@ -8,7 +8,6 @@ ghost use Rattle.pdb_answers.specs.Symbolizers.{lasting};
 ghost use Rattle.pdb_frames.specs.FailingParts.{failed_after};
 ghost use Rattle.pdb_resolving.specs.Fault.{Answers};
 
-use crate::cached_parts::{HeldPlace, keep_parts};
 use crate::known_failures::{KnownFailures, unsuccessful};
 use crate::symbolizer::PlaceSymbolizer;
 use pdb_addresses::PdbInternalSectionOffset;
@@ -17,7 +16,7 @@ use pdb_frames::{
     Chosen, ContextParts, Failures, Namer, Part, PlaceInFunction, check_frames, choose, failing_in,
     frames_in,
 };
-use pdb_known_modules::{BasicModuleInfo, keep_module, known_at, number_over};
+use pdb_known_modules::{BasicModuleInfo, known_at};
 use pdb_owners::SharedFunctionFrames;
 use pdb_resolving::{Error, ModuleProvider, ModuleTables, Result};
 use std::alloc::Global;
@@ -151,19 +150,17 @@ impl<'a, 's, P: ModuleProvider> PlaceSymbolizer<'a, 's, P> {
         ensures frames { Answers (λ f. f) result
             (told_held P.provided self.old contribution place) }
     {
-        let module_index = contribution.module_index();
-        let modules = self.namer.modules();
-        let cache_place = usize::from(module_index);
-        keep_module(alloc, &mut self.cached, self.provider, modules, cache_place)?;
-        let number = number_over(known_at(&self.cached, cache_place), place);
-        let held = HeldPlace {
+        let number = self.data.keep_place(
+            alloc,
+            &self.namer,
+            &self.known_failures,
             contribution,
             place,
-            number,
-        };
-        keep_parts(alloc, &mut self.cached, &self.parts, &self.failed, held)?;
-        let known = known_at(&self.cached, cache_place);
-        let Some(chosen) = choose(&self.parts, known, number, contribution, place) else {
+        )?;
+        let data = &self.data;
+        let module_index = contribution.module_index();
+        let known = known_at(&data.cached, usize::from(module_index));
+        let Some(chosen) = choose(&data.parts, known, number, contribution, place) else {
             return Ok(None);
         };
         let found = ChosenPlace {
@@ -175,7 +172,7 @@ impl<'a, 's, P: ModuleProvider> PlaceSymbolizer<'a, 's, P> {
         };
         frames_unless_known(
             alloc,
-            &self.parts,
+            &data.parts,
             &mut self.namer,
             &mut self.failed,
             &mut self.known_failures,
@@ -199,7 +196,7 @@ impl<'a, 's, P: ModuleProvider> PlaceSymbolizer<'a, 's, P> {
             ≡ failed_after (failing_on P.provided self.old place) result self.old.failed }
         ensures frames { Answers (λ f. f) result (told_on P.provided self.old place) }
     {
-        match self.parts.holding_contribution(place) {
+        match self.data.parts.holding_contribution(place) {
             None => Ok(None),
             Some(contribution) => self.frames_at(alloc, contribution, place),
         }

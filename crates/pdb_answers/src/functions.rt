@@ -16,7 +16,7 @@ use pdb_contributions::ModuleSectionContribution;
 use pdb_frames::{
     Chosen, ContextParts, FunctionEnd, Namer, choose, name_of, to_next_bound, to_next_shared_bound,
 };
-use pdb_known_modules::{BasicModuleInfo, keep_module, known_at, number_over, procedure_numbered};
+use pdb_known_modules::{BasicModuleInfo, known_at, number_over, procedure_numbered};
 use pdb_owners::{Function, FunctionKey, owned_name};
 use pdb_resolving::{ModuleProvider, ModuleTables, Result};
 use std::alloc::Global;
@@ -108,15 +108,14 @@ impl<'a, 's, P: ModuleProvider> PlaceSymbolizer<'a, 's, P> {
             (Ok (function_held P.provided self.old contribution place)) }
     {
         let module_index = contribution.module_index();
-        let modules = self.namer.modules();
-        let cache_place = usize::from(module_index);
-        keep_module(alloc, &mut self.cached, self.provider, modules, cache_place)?;
-        let known = known_at(&self.cached, cache_place);
+        self.data.keep_module(alloc, &self.namer, module_index)?;
+        let data = &self.data;
+        let known = known_at(&data.cached, usize::from(module_index));
         let number = number_over(known, place);
-        let Some(chosen) = choose(&self.parts, known, number, contribution, place) else {
+        let Some(chosen) = choose(&data.parts, known, number, contribution, place) else {
             return Ok(None);
         };
-        function_of(alloc, &self.parts, &mut self.namer, module_index, chosen)
+        function_of(alloc, &data.parts, &mut self.namer, module_index, chosen)
     }
 
     /// Returns the function at a place.
@@ -131,7 +130,7 @@ impl<'a, 's, P: ModuleProvider> PlaceSymbolizer<'a, 's, P> {
         ensures same { self.new ≡ self.old }
         ensures function { Answers (λ f. f) result (Ok (function_on P.provided self.old place)) }
     {
-        match self.parts.holding_contribution(place) {
+        match self.data.parts.holding_contribution(place) {
             None => Ok(None),
             Some(contribution) => self.function_at(alloc, contribution, place),
         }
@@ -153,12 +152,12 @@ impl<'a, 's, P: ModuleProvider> PlaceSymbolizer<'a, 's, P> {
         ensures count { IfOk result
             (λ run. run.1 ≡ far_from P.provided self.old contribution place limit) }
     {
-        let modules = self.namer.modules();
-        let cache_place = usize::from(contribution.module_index());
-        keep_module(alloc, &mut self.cached, self.provider, modules, cache_place)?;
-        let known = known_at(&self.cached, cache_place);
-        let count = to_next_bound(&self.parts, known, place, limit);
-        Ok((key_at(&self.parts, known, contribution, place), count))
+        let module_index = contribution.module_index();
+        self.data.keep_module(alloc, &self.namer, module_index)?;
+        let data = &self.data;
+        let known = known_at(&data.cached, usize::from(module_index));
+        let count = to_next_bound(&data.parts, known, place, limit);
+        Ok((key_at(&data.parts, known, contribution, place), count))
     }
 
     /// Returns a key of the function at a place, and how many bytes from there on have that
@@ -178,8 +177,8 @@ impl<'a, 's, P: ModuleProvider> PlaceSymbolizer<'a, 's, P> {
             (function_on P.provided self.old place) result }
         ensures count { IsRunOf (database_in P.provided self.old) place limit result }
     {
-        match self.parts.holding_contribution(place) {
-            None => Ok((None, to_next_shared_bound(&self.parts, place, limit))),
+        match self.data.parts.holding_contribution(place) {
+            None => Ok((None, to_next_shared_bound(&self.data.parts, place, limit))),
             Some(contribution) => self.key_run_at(alloc, contribution, place, limit),
         }
     }
@@ -193,20 +192,14 @@ impl<'a, 's, P: ModuleProvider> PlaceSymbolizer<'a, 's, P> {
         ensures function { Answers (λ f. f) result
             (Ok (function_of_key P.provided self.old key.now)) }
     {
-        let modules = self.namer.modules();
-        let cache_place = usize::from(key.module_index());
-        keep_module(alloc, &mut self.cached, self.provider, modules, cache_place)?;
-        let known = known_at(&self.cached, cache_place);
-        let Some(chosen) = choose_by(&self.parts, known, key) else {
+        let module_index = key.module_index();
+        self.data.keep_module(alloc, &self.namer, module_index)?;
+        let data = &self.data;
+        let known = known_at(&data.cached, usize::from(module_index));
+        let Some(chosen) = choose_by(&data.parts, known, key) else {
             return Ok(None);
         };
-        function_of(
-            alloc,
-            &self.parts,
-            &mut self.namer,
-            key.module_index(),
-            chosen,
-        )
+        function_of(alloc, &data.parts, &mut self.namer, module_index, chosen)
     }
 
     /// Returns the function at a place, and how many bytes from there on have that function.

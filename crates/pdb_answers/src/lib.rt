@@ -5,13 +5,13 @@
 //! to fail after a question: later answers depend on these.
 #![tactic(auto)]
 
-mod cached_parts;
 mod file_runs;
 mod frame_runs;
 mod frames;
 mod functions;
 mod known_failures;
 pub mod laws;
+mod place_data;
 mod symbolizer;
 
 pub use pdb_contributions::ModuleSectionContribution;

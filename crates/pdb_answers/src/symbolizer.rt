@@ -6,6 +6,7 @@ ghost use Rattle.pdb_answers.specs.Symbolizers.{symbolizer_over};
 ghost use Rattle.pdb_known_modules.specs.CachedModules.{AreKept};
 
 use crate::known_failures::KnownFailures;
+use crate::place_data::PlaceData;
 use pdb_frames::{ContextParts, Failures, Namer};
 use pdb_known_modules::{CachedModules, nothing_cached};
 use pdb_resolving::ModuleProvider;
@@ -28,14 +29,10 @@ fn empty_modules<'a, P: ModuleProvider>(
 /// section has. What it reads of modules is cached, and a part that can't be read stands as failed
 /// from then on.
 pub struct PlaceSymbolizer<'a, 's, P: ModuleProvider> {
-    /// What gives the modules' own streams.
-    pub(crate) provider: &'a P,
-    /// What every answer goes over.
-    pub(crate) parts: ContextParts<'a, 's>,
+    /// What answers go over, but for names.
+    pub(crate) data: PlaceData<'a, 's, P>,
     /// What names functions, and has the list of modules.
     pub(crate) namer: Namer<'a, 's, P>,
-    /// What was read of modules.
-    pub(crate) cached: CachedModules<'a, P::Info>,
     /// The parts of modules that stand as failed.
     pub(crate) failed: Failures,
     /// Which part fails in functions that were asked for.
@@ -50,31 +47,35 @@ impl<'a, 's, P: ModuleProvider> Model for PlaceSymbolizer<'a, 's, P> {
     ghost Value = { symbolizers.Symbolizer P };
 
     ghost view = { λ s. record {
-      provider = s.provider.now;
-      parts = s.parts;
+      provider = s.data.provider.now;
+      parts = s.data.parts;
       formatting = s.namer;
       failed = s.failed;
     } };
 
     // What is cached of each module is its own, and what is known to fail does.
     ghost invariant = { λ s.
-        AreKept (data_among P.provided s.provider.now s.namer) s.cached
-        × AreFailuresOf (data_of_modules P.provided s.provider.now s.namer) s.known_failures };
+        AreKept (data_among P.provided s.data.provider.now s.namer) s.data.cached
+        × AreFailuresOf (data_of_modules P.provided s.data.provider.now s.namer)
+        s.known_failures };
 }
 
 impl<'a, 's, P: ModuleProvider> Drop for PlaceSymbolizer<'a, 's, P> {
     fn drop(self) {
         let PlaceSymbolizer {
-            provider: _,
-            parts,
+            data,
             namer,
-            cached,
             failed,
             known_failures,
         } = self;
+        let PlaceData {
+            provider: _,
+            parts,
+            cached,
+        } = data;
         drop(parts);
-        drop(namer);
         drop(cached);
+        drop(namer);
         drop(failed);
         drop(known_failures);
     }
@@ -97,10 +98,12 @@ impl<'a, 's, P: ModuleProvider> PlaceSymbolizer<'a, 's, P> {
     {
         let cached = empty_modules(alloc, provider, &namer)?;
         Ok(PlaceSymbolizer {
-            provider,
-            parts,
+            data: PlaceData {
+                provider,
+                parts,
+                cached,
+            },
             namer,
-            cached,
             failed: Failures::new(alloc),
             known_failures: KnownFailures::new(alloc),
         })
@@ -110,7 +113,7 @@ impl<'a, 's, P: ModuleProvider> PlaceSymbolizer<'a, 's, P> {
     pub fn provider(&self) -> &'a P
         ensures { result.now ≡ self.now.provider }
     {
-        self.provider
+        self.data.provider
     }
 
     /// What every answer goes over: the address map, the contributions, the public list and the
@@ -118,7 +121,7 @@ impl<'a, 's, P: ModuleProvider> PlaceSymbolizer<'a, 's, P> {
     pub fn parts(&self) -> &ContextParts<'a, 's>
         ensures { result.now ≡ self.now.parts }
     {
-        &self.parts
+        &self.data.parts
     }
 
     /// What names functions, and has the list of modules.
@@ -134,17 +137,14 @@ impl<'a, 's, P: ModuleProvider> PlaceSymbolizer<'a, 's, P> {
         ensures { result ≡ self.entry.parts }
     {
         let PlaceSymbolizer {
-            provider: _,
-            parts,
+            data,
             namer,
-            cached,
             failed,
             known_failures,
         } = self;
         drop(namer);
-        drop(cached);
         drop(failed);
         drop(known_failures);
-        parts
+        data.into_parts()
     }
 }
