@@ -1,4 +1,3 @@
-pub mod AddressCounts
 pub mod Folders
 pub mod KeySums
 pub mod KindCounts

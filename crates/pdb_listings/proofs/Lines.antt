@@ -6,7 +6,7 @@ use Rattle.pdb_addresses.specs.Places.{Place, internal_place}
 use Rattle.pdb_addresses.specs.SectionRun.{place_on}
 use Rattle.pdb_addresses.specs.declared.internal_section_offset.PdbInternalSectionOffset.{PdbInternalSectionOffset}
 use Rattle.pdb_addr2line.specs.Context.{Context, scope_in}
-use Rattle.pdb_frames.specs.Choice.{Parts, held_at, place_of as place_at}
+use Rattle.pdb_frames.specs.Choice.{Parts, held_at}
 use Rattle.pdb_frames.specs.FrameRuns.{frames_here, frames_of_places, if_answered, readable}
 use Rattle.pdb_frames.specs.FramesAt.{frames, frames_if_held}
 use Rattle.pdb_frames.specs.Scopes.{Scope}

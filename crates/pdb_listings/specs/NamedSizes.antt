@@ -1,14 +1,13 @@
 -- Bytes by the names of functions or of source files.
-use Rattle.std.specs.Prelude.{◌≡◌, ℕ, ◌+◌, ◌-◌, Bool, false, true, List, [], Option, Result, IfOk, OnOk}
+use Rattle.std.specs.Prelude.{◌≡◌, ℕ, ◌+◌, ◌-◌, Bool, false, true, List, Result, IfOk, OnOk}
 use Rattle.std.specs.Prelude.{if◌then◌else◌}
 use Rattle.pdb_addresses.specs.Addresses.{Map}
 use Rattle.pdb_owners.specs.Answers.{picked}
-use Rattle.pdb_addresses.specs.Places.{Place}
-use Rattle.pdb_owners.specs.Counts.{answer_along, counted_at, how_many}
+use Rattle.pdb_owners.specs.Counts.{counted_at, how_many}
 use Rattle.pdb_owners.specs.Databases.{Keyed}
 use Rattle.pdb_owners.specs.FileAnswers.{FileAnswer}
 use Rattle.pdb_owners.specs.FunctionOrder.{Function}
-use Rattle.pdb_owners.specs.Table.{IsCounted, sum_found, sum_of, sum_where}
+use Rattle.pdb_owners.specs.Table.{sum_found, sum_of, sum_where}
 use Rattle.pdb_owners.specs.Texts.{text_or}
 use Rattle.pdb_listings.specs.Sizes.{path_name}
 
@@ -25,19 +24,6 @@ file_named by_folder test f = test (path_name by_folder f)
 -- bytes by names
 abbrev pub Table : Type 0
 Table = List (List ℕ × ℕ)
-
--- ---- keys
-
--- The answers of so many places from one on, if there is one, have come to a table by their keys.
-abbrev pub CountsPlaces : {K A : Type 0} → Keyed K A → Option Place → ℕ → List (K × ℕ)
-    → List (K × ℕ) → Type 0
-CountsPlaces keyed place count old new =
-    IsCounted keyed.answer_of (answer_along keyed.places place) 0 count old new
-
--- A table has the answers of the addresses of a range, by their keys.
-abbrev pub CountsRange : {K A : Type 0} → Map → Keyed K A → ℕ → ℕ → List (K × ℕ) → Type 0
-CountsRange m keyed start end table =
-    IsCounted keyed.answer_of (counted_at m keyed.places) start (end - start) [] table
 
 -- ---- one key more
 

@@ -29,7 +29,6 @@
 mod by_name;
 mod changes;
 mod compilers;
-mod counting;
 mod csv;
 mod functions;
 mod json;
@@ -41,7 +40,6 @@ mod named_functions;
 mod names;
 mod owner_sizes;
 mod padding;
-mod places;
 mod plain;
 mod rows;
 mod sizes;

@@ -3,19 +3,17 @@
 ghost use Rattle.std.specs.Prelude.{◌≡◌, ◌+◌, ◌<◌, ◌≤◌, ◌↔◌, IfOk, IsTrue, option_map};
 ghost use Rattle.std.specs.Prelude.{string_bytes};
 ghost use Rattle.std.specs.Cow.{cow_str_bytes};
-ghost use Rattle.pdb_addresses.specs.Addresses.{IsOrdered};
+ghost use Rattle.pdb_addresses.specs.Addresses.{IsOrdered, inner};
 ghost use Rattle.pdb_addr2line.specs.Context.{lasting};
-ghost use Rattle.pdb_listings.specs.Runs.{IsLineRun, line_in, line_seen};
+ghost use Rattle.pdb_owners.specs.Counts.{is_last};
+ghost use Rattle.pdb_owners.specs.Databases.{place_of};
+ghost use Rattle.pdb_listings.specs.Runs.{ArePlacesFrom, IsLineRun, line_in, line_seen};
 
-use crate::places::place_run;
 use pdb_addr2line::{Context, SharedFunctionFrames};
-use pdb_addresses::AddressMap;
+use pdb_addresses::{AddressMap, PdbInternalSectionOffset, Rva};
 use pdb_resolving::ModuleProvider;
 use std::alloc::{AllocError, Global};
 use std::borrow::CowStr;
-
-/// How many addresses are looked at ahead. Most lines have fewer.
-const AHEAD: u32 = 64;
 
 /// A line of source.
 #[derive(Drop, PartialEq)]
@@ -58,17 +56,37 @@ fn innermost_line(
     }))
 }
 
-/// Where looking ahead from an address on ends: at `end`, or [`AHEAD`] addresses further.
-fn ahead_of(address: u32, end: u32) -> u32
-    requires { address < end }
-    ensures some { address < result }
-    ensures within { result ≤ end }
+/// Whether an address becomes 0xffffffff.
+#[tactic(auto, using(crate::proofs::PlaceRuns::none_last, crate::proofs::PlaceRuns::some_last))]
+fn becomes_last(map: &AddressMap<'_>, address: u32) -> bool
+    requires { IsOrdered map.now }
+    ensures { result ≡ is_last (inner map.now address) }
 {
-    if end - address > AHEAD {
-        address + AHEAD
-    } else {
-        end
+    match Rva(address).to_internal_rva(map) {
+        None => false,
+        Some(internal) => internal.0 == u32::MAX,
     }
+}
+
+/// The place of an address, if it has one, and over how many addresses from there on and before
+/// `end` places follow one another, or are missing. An address that becomes 0xffffffff has none.
+#[tactic(auto, using(crate::proofs::PlaceRuns::last_run, crate::proofs::PlaceRuns::other_run))]
+fn counted_run(
+    map: &AddressMap<'_>,
+    address: u32,
+    end: u32,
+) -> (Option<PdbInternalSectionOffset>, u32)
+    requires ordered { IsOrdered map.now }
+    requires order { address < end }
+    ensures some { 1 ≤ result.1 }
+    ensures within { address + result.1 ≤ end }
+    ensures along { ArePlacesFrom map.now address result.1 (option_map place_of result.0) }
+{
+    let (place, count) = map.place_run(Rva(address), Rva(end));
+    if becomes_last(map, address) {
+        return (None, count);
+    }
+    (place, count)
 }
 
 /// The line at an address, if it has one, and over how many addresses from there on and before
@@ -94,7 +112,7 @@ pub fn line_run<P: ModuleProvider>(
     ensures each { map.now ≡ (context.old.parts).map
         → IfOk result (IsLineRun P.provided context.old address) }
 {
-    let (place, count) = place_run(map, address, ahead_of(address, end));
+    let (place, count) = counted_run(map, address, end);
     let Some(place) = place else {
         return Ok((None, count));
     };

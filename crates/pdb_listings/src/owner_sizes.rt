@@ -9,13 +9,12 @@ ghost use Rattle.pdb_listings.specs.NamedSizes.{SumsBytes, SumsNames, SumsPaths}
 ghost use Rattle.pdb_owners.specs.Table.{sum_of};
 
 use crate::by_name::{file_name, function_name};
-use crate::counting::count_keys;
 use crate::keyed_runs::{FileRuns, FunctionRuns};
 use crate::named::Named;
 use crate::sizes::add_bytes;
 use pdb_addr2line::Context;
 use pdb_addresses::AddressMap;
-use pdb_owners::{Counts, FileKey, FunctionKey, Runs};
+use pdb_owners::{Counts, FileKey, FunctionKey, Runs, count_keys};
 use pdb_resolving::ModuleProvider;
 use std::alloc::{AllocError, Global};
 
