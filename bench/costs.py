@@ -407,6 +407,12 @@ def thunks_moved(size):
     return thunks_of_same_pages(size, count, maps=(to, u32(0x1000, 0x1000)))
 
 
+def addresses_left_out(size):
+    """a section of 2,048 MB all of whose addresses an OMAP leaves out"""
+    streams = database([(procedures(16), b"")], maps=(u32(0, 0), u32(0x1000, 0x1000)))
+    return container(streams), [0x1100]
+
+
 def listed_often(addresses):
     """A file whose second module, from 0x11000 on, has one page 400 times in its list."""
     modules = [(procedures(16), b""), (u32(4) + bytes(PAGE - 4), b"")]
@@ -452,6 +458,7 @@ CASES = [
     (procedures_of_same_pages, (0.12, 0.25)),
     (imports_of_same_pages, (0.12, 0.25)),
     (thunks_moved, (0.1, 0.2)),
+    (addresses_left_out, (0.01,)),
 ]
 
 # what is asked for the sizes of functions or of files, of all addresses

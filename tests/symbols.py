@@ -247,6 +247,22 @@ def check_targets(tally, program, folder):
             tally.check(f"{option}", got, (1, b"", b"fault: Write(PermissionDenied)\n"))
 
 
+def check_store_over(tally, program, folder, words, name):
+    """Has a symbol file written to a store where its place is another name of what is read."""
+    identity = open(f"{folder}/cpp_o2_19.image.sym", "rb").read().split(b" ")[3].decode()
+    below = f"{folder}/over_{name}/cpp_o2_19.pdb/{identity}"
+    place = f"{below}/cpp_o2_19.sym"
+    before = open(f"{folder}/{name}", "rb").read()
+    os.makedirs(below)
+    for how in (os.link, os.symlink):
+        how(f"{folder}/{name}", place)
+        got = run(program, ["--store", f"over_{name}", *words], folder)
+        tally.check(f"{name} in a store", (got[0], got[1], got[2][:7]), (2, b"", b"error: "))
+        tally.check(f"{name} in place", open(place, "rb").read(), before)
+        tally.check(f"beside {name}", os.listdir(below), ["cpp_o2_19.sym"])
+        os.remove(place)
+
+
 def check_others(tally, program, folder):
     """Has files written where others stand: links, FIFOs, files of other runs, what is read."""
     read = lambda name: open(f"{folder}/{name}", "rb").read()
@@ -289,6 +305,8 @@ def check_others(tally, program, folder):
     for path in ("cpp_o2_19.pdb", "./cpp_o2_19.exe", "link.pdb"):
         got = run(program, ["--output", path, *image], folder)
         tally.check(f"{path} over itself", (got[0], got[1], got[2][:7]), (2, b"", b"error: "))
+    for name in image[1:]:
+        check_store_over(tally, program, folder, image, name)
     tally.check("what is read", [read(name) for name in image[1:]], before)
     for words in (["--store", ""], ["--store="], ["--output", ""], ["--output="]):
         told = f"error: a value is required for '{words[0].rstrip('=')}'\n".encode()

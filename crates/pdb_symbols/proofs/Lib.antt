@@ -1,4 +1,3 @@
-pub mod AddressRuns
 pub mod ToldSteps
 pub mod WritingSteps
 pub mod NamedSteps

@@ -185,6 +185,7 @@ image_fails_by reads asked bytes s l i ends.ImageNamesNoPdb a b r =
     refused_by asked bytes s l i _ a b r
 image_fails_by reads asked bytes s l i ends.OtherBuild a b r = refused_by asked bytes s l i _ a b r
 image_fails_by reads asked bytes s l i (ends.Write kind) a b r = absurd r
+image_fails_by reads asked bytes s l i ends.OutputIsRead a b r = absurd r
 
 pub image_fails : (reads : Bool) (asked : Asked) (bytes : Option (List ℕ))
     (order : ContributionOrder) (file : List ℕ) (h : Held) (i : PdbIdentity) (e : SymbolsFault)
@@ -432,6 +433,7 @@ read_fails file s (ends.Image e) r = absurd r
 read_fails file s ends.ImageNamesNoPdb r = absurd r
 read_fails file s ends.OtherBuild r = absurd r
 read_fails file s (ends.Write kind) r = absurd r
+read_fails file s ends.OutputIsRead r = absurd r
 
 pub read_fault : {A : Type 0} (r : Result A SymbolsFault) (file : Result SymbolFile Refusal)
     (s : Streams) → IfErr r IsReadFault → IfErr r (λ e. FailsToMake true file s e)

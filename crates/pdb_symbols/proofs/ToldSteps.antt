@@ -5,6 +5,7 @@ use Rattle.std.proofs.lemmas.Bool.{cases_lt}
 use Rattle.std.proofs.Math.Bool.{or-true}
 use Rattle.std.specs.Prelude.{Option, None, Some, option_and_then, option_map, Result, Ok, Err}
 use Rattle.pdb_addresses.specs.Addresses.{Map, inner_place}
+use Rattle.pdb_addresses.specs.PlaceRun.{breaks}
 use Rattle.pdb_addresses.specs.Places.{Place}
 use Rattle.pdb_addresses.specs.SectionRun.{place_on}
 use Rattle.pdb_addresses.specs.declared.internal_section_offset.PdbInternalSectionOffset.{PdbInternalSectionOffset}
@@ -49,7 +50,7 @@ use Rattle.pdb_symbol_records.specs.Symbols.{symbols_from}
 use Rattle.pdb_symbols_modules.specs.DatabaseCalls.{debug_information, names}
 use Rattle.pdb_symbols_modules.specs.Shared.{Shared, shared}
 use Rattle.pdb_owners.specs.Counts.{is_bound_in}
-use Rattle.pdb_symbols.specs.Lookups.{begins_by, begins_if, begins_named, breaks, is_bound_for}
+use Rattle.pdb_symbols.specs.Lookups.{begins_by, begins_if, begins_named, is_bound_for}
 use Rattle.pdb_symbols.specs.Lookups.{is_bound_of, rise}
 use Rattle.pdb_symbols.specs.Told.{start_of, told_found, told_place}
 
@@ -189,35 +190,49 @@ named_told inlines flags order s m a is =
 away : (address a : ℕ) → address ≤ a → a ≡ address + (a - address)
 away address a le = omega arith
 
+-- a place that was found
+found_none : (o : Option Place) (found : Option PdbInternalSectionOffset)
+    → found ≡ option_map internal_place o → found ≡ None → o ≡ None
+found_none None found is none = refl
+found_none (Some p) found is none = let bad : ⊥ = cc in absurd bad
+
+found_some : (o : Option Place) (found : Option PdbInternalSectionOffset)
+    (place : PdbInternalSectionOffset) → found ≡ option_map internal_place o → found ≡ Some place
+    → o ≡ Some (place_of place)
+found_some None found place is some = let bad : ⊥ = cc in absurd bad
+found_some (Some p) found place is some =
+    let same : internal_place p ≡ place = cc in
+    ap (λ (q : PdbInternalSectionOffset). let r : Option Place = Some (place_of q) in r) same
+
 -- a run of addresses that have no place
 pub none_told : (inlines : Bool) (flags : ℕ) (order : ContributionOrder) (s : Streams) (m : Map)
     (address n : ℕ) (found : Option PdbInternalSectionOffset) → map_with order s ≡ Some m
-    → found ≡ None
-    → ((k : ℕ) → k < n → inner_place m (address + k) ≡ place_on k (option_map place_of found))
+    → found ≡ option_map internal_place (inner_place m address) → found ≡ None
+    → ((k : ℕ) → k < n → inner_place m (address + k) ≡ place_on k (inner_place m address))
     → (a : ℕ) → address ≤ a → a < address + n → told_named inlines flags order s a ≡ None
-none_told inlines flags order s m address n found is none along a le lt =
+none_told inlines flags order s m address n found is here none along a le lt =
     named_told inlines flags order s m a is
     ∙ ap (λ (b : ℕ). told_if_placed inlines flags order s (inner_place m b)) (away address a le)
     ∙ ap (told_if_placed inlines flags order s) (along (a - address) (omega arith))
-    ∙ ap (λ (o : Option PdbInternalSectionOffset).
-    told_if_placed inlines flags order s (place_on (a - address) (option_map place_of o))) none
+    ∙ ap (λ (o : Option Place). told_if_placed inlines flags order s (place_on (a - address) o))
+    (found_none (inner_place m address) found here none)
 
--- a run of addresses whose places follow each other
+-- a run of addresses whose places follow one another
 pub run_told : (inlines : Bool) (flags : ℕ) (order : ContributionOrder) (s : Streams) (m : Map)
     (address n count : ℕ) (found : Option PdbInternalSectionOffset)
     (place : PdbInternalSectionOffset) (told : Option Told) → map_with order s ≡ Some m
-    → found ≡ Some place
-    → ((k : ℕ) → k < n → inner_place m (address + k) ≡ place_on k (option_map place_of found))
+    → found ≡ option_map internal_place (inner_place m address) → found ≡ Some place
+    → ((k : ℕ) → k < n → inner_place m (address + k) ≡ place_on k (inner_place m address))
     → count ≤ n
     → ((k : ℕ) → k < count → told_place inlines (database_named flags order s)
     (frames_named flags order s) (on (place_of place) k) ≡ told)
     → (a : ℕ) → address ≤ a → a < address + count → told_named inlines flags order s a ≡ told
-run_told inlines flags order s m address n count found place told is some along few same a le lt =
+run_told inlines flags order s m address n count found place told is here some along few same a le lt =
     named_told inlines flags order s m a is
     ∙ ap (λ (b : ℕ). told_if_placed inlines flags order s (inner_place m b)) (away address a le)
     ∙ ap (told_if_placed inlines flags order s) (along (a - address) (omega arith))
-    ∙ ap (λ (o : Option PdbInternalSectionOffset).
-    told_if_placed inlines flags order s (place_on (a - address) (option_map place_of o))) some
+    ∙ ap (λ (o : Option Place). told_if_placed inlines flags order s (place_on (a - address) o))
+    (found_some (inner_place m address) found place here some)
     ∙ same (a - address) (omega arith)
 
 -- what is known once more was read was known before
@@ -309,7 +324,7 @@ begins_with flags order s m a is h =
     ap (λ (o : Option Map).
     begins_if o (database_named flags order s) (frames_named flags order s) a) is ∙ h
 
--- where places no longer follow each other
+-- where places no longer follow one another
 pub breaks_begin : (flags : ℕ) (order : ContributionOrder) (s : Streams) (m : Map) (a : ℕ)
     → map_with order s ≡ Some m → breaks m a ≡ true → begins_named flags order s a ≡ true
 breaks_begin flags order s m a is h =
@@ -330,18 +345,19 @@ bounds_begin flags order s m a p is there h =
 -- a run of addresses ends where its places do, or what is told of them
 pub run_ends : (flags : ℕ) (order : ContributionOrder) (s : Streams) (m : Map)
     (address end n count : ℕ) (found : Option PdbInternalSectionOffset)
-    (place : PdbInternalSectionOffset) → map_with order s ≡ Some m → found ≡ Some place
-    → ((k : ℕ) → k < n → inner_place m (address + k) ≡ place_on k (option_map place_of found))
+    (place : PdbInternalSectionOffset) → map_with order s ≡ Some m
+    → found ≡ option_map internal_place (inner_place m address) → found ≡ Some place
+    → ((k : ℕ) → k < n → inner_place m (address + k) ≡ place_on k (inner_place m address))
     → (address + n < end → breaks m (address + n) ≡ true) → count ≤ n
     → (count < n → is_bound_of (database_named flags order s) (frames_named flags order s)
     (on (place_of place) count) ≡ true)
     → address + count < end → begins_named flags order s (address + count) ≡ true
-run_ends flags order s m address end n count found place is some along ends few bound lt =
+run_ends flags order s m address end n count found place is here some along ends few bound lt =
     elim (cases_lt count n) [
       | inl less ↦
           bounds_begin flags order s m (address + count) (on (place_of place) count) is
           (along count less
-          ∙ ap (λ (o : Option PdbInternalSectionOffset). place_on count (option_map place_of o)) some)
+          ∙ ap (place_on count) (found_some (inner_place m address) found place here some))
           (bound less)
       | inr all ↦
           let same : n ≡ count = omega (arith, few, all) in

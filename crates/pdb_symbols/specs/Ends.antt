@@ -10,6 +10,7 @@ use Rattle.pdb_symbols.specs.declared.fault.SymbolsFault.TheVariants as ends
 abbrev pub FailsToWrite : SymbolsFault → Type 0
 FailsToWrite (ends.Load faults.OutOfMemory) = Unit {0}
 FailsToWrite (ends.Write kind) = Unit {0}
+FailsToWrite ends.OutputIsRead = Unit {0}
 FailsToWrite e = ⊥
 
 -- A file that is read on demand couldn't be read, or memory is short.

@@ -1,12 +1,10 @@
 -- At which addresses something else may be told than of the one before, so that a database is
 -- looked up again.
-use Rattle.std.specs.Prelude.{◌≡◌, ℕ, ◌-◌, ◌*◌, ◌<◌, ◌≤◌, Bool, true, false, not, ◌&&◌, ◌||◌, ◌==◌, is_some}
-use Rattle.std.specs.Prelude.{List, Option, None, Some, Result, Ok, Err}
-use Rattle.pdb_addresses.specs.Addresses.{Map, inner, inner_place}
+use Rattle.std.specs.Prelude.{◌≡◌, ℕ, ◌-◌, ◌*◌, ◌<◌, ◌≤◌, Bool, true, false, ◌||◌, List, Option}
+use Rattle.std.specs.Prelude.{None, Some, Result, Ok, Err}
+use Rattle.pdb_addresses.specs.Addresses.{Map, inner_place}
+use Rattle.pdb_addresses.specs.PlaceRun.{breaks}
 use Rattle.pdb_addresses.specs.Places.{Place}
-use Rattle.pdb_addresses.specs.Ranges.{kept, number_for}
-use Rattle.pdb_addresses.specs.declared.omap.OMAPRecord.{OMAPRecord}
-use Rattle.pdb_addresses.specs.declared.sections.ImageSectionHeader.{ImageSectionHeader}
 use Rattle.pdb_addr2line.specs.Context.{Context}
 use Rattle.pdb_addr2line.specs.Answer.{answered_in, database_in, database_named, frames_in}
 use Rattle.pdb_addr2line.specs.Answer.{frames_named, map_with}
@@ -15,7 +13,7 @@ use Rattle.pdb_loading.specs.Loading.{Loaded, LoadingFault, loaded_with}
 use Rattle.pdb_loading.specs.ModuleInfos.{KeptInfo}
 use Rattle.pdb_loading.specs.declared.order.ContributionOrder.{ContributionOrder}
 use Rattle.pdb_loading.specs.declared.order.ContributionOrder.TheVariants.{Any}
-use Rattle.pdb_owners.specs.Counts.{is_bound_in, is_section_bound}
+use Rattle.pdb_owners.specs.Counts.{is_bound_in}
 use Rattle.pdb_owners.specs.Databases.{Database, on}
 use Rattle.pdb_owners.specs.Frames.{FunctionFrames}
 use Rattle.pdb_owners.specs.FunctionOrder.{Function}
@@ -46,23 +44,7 @@ EndsAtBound is_bound p limit run = run.count < limit → is_bound (on p run.coun
 
 -- ---- addresses
 
--- an address goes on from the one before it: both become something, by one record of the OMAP
-abbrev pub goes_on : Option (List OMAPRecord) → ℕ → Bool
-goes_on omap a =
-    is_some (kept omap (a - 1))
-    && (is_some (kept omap a) && (number_for omap (a - 1) == number_for omap a))
-
--- whether a section begins or ends at an internal address, if there is one
-abbrev pub is_bound_at : List ImageSectionHeader → Option ℕ → Bool
-is_bound_at sections None = false
-is_bound_at sections (Some x) = is_section_bound sections x
-
--- places may no longer follow each other at an address: it doesn't go on from the one before it, or
--- a section begins or ends at its internal address
-abbrev pub breaks : Map → ℕ → Bool
-breaks m a = not (goes_on m.to_internal a) || is_bound_at m.internal (inner m a)
-
--- a piece begins at an address: places may no longer follow each other, or its place is a bound of
+-- a piece begins at an address: places may no longer follow one another, or its place is a bound of
 -- the functions or of the frames
 abbrev pub begins_by : Map → Database Function → Database (Option FunctionFrames) → ℕ → Bool
 begins_by m functions frames a =

@@ -162,6 +162,7 @@ FailsToMake reads file s (ends.Image e) = file ≡ Err (ImageFault e)
 FailsToMake reads file s ends.ImageNamesNoPdb = file ≡ Err ImageNamesNoPdb
 FailsToMake reads file s ends.OtherBuild = file ≡ Err OtherBuild
 FailsToMake reads file s (ends.Write kind) = ⊥
+FailsToMake reads file s ends.OutputIsRead = ⊥
 
 -- A symbol file was written, its names undecorated or not. A consumer reads its text back as its
 -- records.

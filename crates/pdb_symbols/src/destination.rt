@@ -5,7 +5,7 @@ use crate::image_file::read_image;
 use crate::making::{Destination, write_in_memory};
 use crate::making_on_demand::{OnDemand, write_on_demand};
 use crate::options::{Options, Target};
-use crate::output_file::{OutputFile, open_output, write_fault};
+use crate::output_file::{OutputFile, is_read, open_output, write_fault};
 use crate::progress::Progress;
 use bumpalo::Bump;
 use pdb_addr2line::{ContributionOrder, FileOnDemand};
@@ -96,6 +96,9 @@ impl<S: Files + AllocGlobal, W: Write + Drop> Destination<S> for Place<S::File, 
             Target::Store(store) => {
                 let (store, file) = (store.as_str(), options.file.as_str());
                 let (folder, path) = store_path(rt.alloc(), store, file, identity)?;
+                if is_read(rt, options, path.as_str())? {
+                    return Err(SymbolsFault::OutputIsRead);
+                }
                 write_fault(fs::create_dir_all(rt, folder.as_str()))?;
                 path
             }

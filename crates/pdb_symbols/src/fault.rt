@@ -32,6 +32,8 @@ pub enum SymbolsFault {
     OtherBuild,
     /// A write failed with that kind.
     Write(ErrorKind),
+    /// The database or the image, which are read, would be written over.
+    OutputIsRead,
 }
 
 impl fmt::Display for SymbolsFault {
@@ -45,6 +47,7 @@ impl fmt::Display for SymbolsFault {
             SymbolsFault::ImageNamesNoPdb => write!(f, "ImageNamesNoPdb"),
             SymbolsFault::OtherBuild => write!(f, "OtherBuild"),
             SymbolsFault::Write(kind) => write!(f, "Write({})", kind_name(*kind)),
+            SymbolsFault::OutputIsRead => write!(f, "OutputIsRead"),
         }
     }
 }

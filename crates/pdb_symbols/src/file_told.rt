@@ -12,13 +12,12 @@ ghost use Rattle.pdb_symbols.specs.Lookups.{EndsAtBound, begins_of, is_bound_by,
 ghost use Rattle.pdb_symbols.specs.SymbolsText.{TellsCode};
 ghost use Rattle.pdb_symbols.specs.Told.{TellsPlaces, told_by, told_named, told_place_by};
 
-use crate::address_runs::address_run;
 use crate::fault::SymbolsFault;
 use crate::progress::Progress;
 use crate::told_places::told_at_place;
 use crate::writing::{FileText, text_of};
 use pdb_addr2line::{Error, FileSymbolizer, TRIES};
-use pdb_addresses::{ImageSectionHeader, PdbInternalSectionOffset};
+use pdb_addresses::{ImageSectionHeader, PdbInternalSectionOffset, Rva};
 use pdb_symbol_files::{ToldFault, ToldRun, ToldRuns};
 use std::alloc::Global;
 use std::io::{ErrorKind, Write};
@@ -154,7 +153,8 @@ impl<'a, F: FileExt + Drop, E: Write + Drop> ToldRuns for FileTold<'a, F, E> {
     }
 
     fn told_run(&mut self, alloc: Global, address: u32, end: u32) -> Result<ToldRun, ToldFault> {
-        let (place, count) = address_run(self.symbolizer.address_map(), address, end);
+        let map = self.symbolizer.address_map();
+        let (place, count) = map.place_run(Rva(address), Rva(end));
         let inlines = self.inlines;
         let run = match place {
             Some(place) => told_read(

@@ -2,7 +2,6 @@
 //! `pdb_symbols FILE [IMAGE]`.
 #![tactic(auto)]
 
-mod address_runs;
 mod describing;
 mod destination;
 mod fault;
@@ -65,14 +64,20 @@ fn run(rt: &HostRuntime, options: &Options) -> ExitCode {
     }
     let shows = errors.is_terminal();
     let progress = Progress::new(rt.stderr(), shows);
-    match write_symbols(rt, options, rt.stdout(), progress) {
-        Ok(()) => ExitCode::SUCCESS,
-        Err(fault) => {
-            if shows {
-                let _ = errors.write_all(ERASED);
-            }
-            report(&mut errors, &fault)
+    let Err(fault) = write_symbols(rt, options, rt.stdout(), progress) else {
+        return ExitCode::SUCCESS;
+    };
+    if shows {
+        let _ = errors.write_all(ERASED);
+    }
+    match fault {
+        SymbolsFault::OutputIsRead => {
+            refuse(
+                &mut errors,
+                "'--store' would write over a file that is read",
+            )
         }
+        fault => report(&mut errors, &fault),
     }
 }
 

@@ -56,6 +56,20 @@ fn described_on_demand<'b, F: FileExt + Drop>(
     Ok((described, identity))
 }
 
+/// What came of a symbol file, and the file of a database that is asked nothing more.
+fn close<'a, F: Drop, T: Drop>(
+    symbolizer: FileSymbolizer<'a, F>,
+    outcome: Result<T, SymbolsFault>,
+) -> OnDemand<'a, F, T>
+    ensures outcome { result.outcome ≡ outcome }
+    ensures views { result.source.views ≡ symbolizer.entry.views }
+    ensures contents { result.source.contents.numbers ≡ symbolizer.entry.contents }
+{
+    let (source, context) = symbolizer.into_parts();
+    drop(context);
+    OnDemand { outcome, source }
+}
+
 /// Makes the symbol file of a database that was loaded and is read on demand.
 fn made_by_file<'a, 'b, F: FileExt + Drop, E: Write + Drop>(
     alloc: Global,
@@ -80,14 +94,7 @@ fn made_by_file<'a, 'b, F: FileExt + Drop, E: Write + Drop>(
 {
     let (described, identity) = match described_on_demand(alloc, options, &mut symbolizer, image) {
         Ok(described) => described,
-        Err(fault) => {
-            let (source, context) = symbolizer.into_parts();
-            drop(context);
-            return OnDemand {
-                outcome: Err(fault),
-                source,
-            };
-        }
+        Err(fault) => return close(symbolizer, Err(fault)),
     };
     let Described {
         first,
@@ -108,8 +115,6 @@ fn made_by_file<'a, 'b, F: FileExt + Drop, E: Write + Drop>(
         lookups,
     } = runs;
     drop(progress);
-    let (source, context) = symbolizer.into_parts();
-    drop(context);
     let outcome = match text {
         Ok(text) => Ok(Made {
             text,
@@ -119,7 +124,7 @@ fn made_by_file<'a, 'b, F: FileExt + Drop, E: Write + Drop>(
         }),
         Err(fault) => Err(fault),
     };
-    OnDemand { outcome, source }
+    close(symbolizer, outcome)
 }
 
 /// Makes the symbol file of a database that is read on demand, and of the bytes of its image, if

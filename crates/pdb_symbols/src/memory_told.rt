@@ -13,13 +13,12 @@ ghost use Rattle.pdb_symbols.specs.declared.fault.SymbolsFault.TheVariants as en
 ghost use Rattle.pdb_symbols.specs.Told.{told_named};
 ghost use Rattle.pdb_symbols_modules.specs.Streams.{streams};
 
-use crate::address_runs::address_run;
 use crate::fault::SymbolsFault;
 use crate::progress::Progress;
 use crate::told_places::told_at_place;
 use crate::writing::{FileText, text_of};
 use pdb_addr2line::{FileContext, Symbolizer};
-use pdb_addresses::ImageSectionHeader;
+use pdb_addresses::{ImageSectionHeader, Rva};
 use pdb_symbol_files::{ToldFault, ToldRun, ToldRuns};
 use std::alloc::Global;
 use std::io::Write;
@@ -51,7 +50,8 @@ fn told_in_memory(
         (begins_named 23 symbolizer.now.order (streams symbolizer.now.bytes)) address end) }
     ensures lookups { OnOk result (context.new.lookups ≤ context.old.lookups + 2) }
 {
-    let (place, count) = address_run(symbolizer.address_map(), address, end);
+    let map = symbolizer.address_map();
+    let (place, count) = map.place_run(Rva(address), Rva(end));
     let place = match place {
         None => return Ok(ToldRun { told: None, count }),
         Some(place) => place,

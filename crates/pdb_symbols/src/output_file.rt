@@ -133,7 +133,9 @@ impl<F: Drop> OutputFile<F> {
 }
 
 /// The regular file that a path leads to; `None` where it leads to none, or can't be followed.
-fn regular_at(rt: &impl Files, path: &str) -> Result<Option<Metadata>, SymbolsFault> {
+fn regular_at(rt: &impl Files, path: &str) -> Result<Option<Metadata>, SymbolsFault>
+    ensures { IfErr result FailsToWrite }
+{
     match fs::metadata(rt, path) {
         Ok(metadata) if metadata.is_file() => Ok(Some(metadata)),
         Err(error) if error.kind() == ErrorKind::OutOfMemory => Err(SymbolsFault::out_of_memory()),
@@ -142,22 +144,23 @@ fn regular_at(rt: &impl Files, path: &str) -> Result<Option<Metadata>, SymbolsFa
 }
 
 /// Whether a path leads to a regular file.
-fn leads_to(rt: &impl Files, path: &str, file: &Metadata) -> Result<bool, SymbolsFault> {
+fn leads_to(rt: &impl Files, path: &str, file: &Metadata) -> Result<bool, SymbolsFault>
+    ensures { IfErr result FailsToWrite }
+{
     match regular_at(rt, path)? {
         Some(found) => Ok(found.dev() == file.dev() && found.ino() == file.ino()),
         None => Ok(false),
     }
 }
 
-/// Whether the file that is written is the database or the image, by whatever path.
+/// Whether a path leads to the database or the image, by whatever paths these are named.
 ///
 /// # Errors
 /// Out of memory.
-pub fn is_output_read(rt: &impl Files, options: &Options) -> Result<bool, SymbolsFault> {
-    let Target::File(path) = &options.target else {
-        return Ok(false);
-    };
-    let Some(output) = regular_at(rt, path.as_str())? else {
+pub fn is_read(rt: &impl Files, options: &Options, path: &str) -> Result<bool, SymbolsFault>
+    ensures { IfErr result FailsToWrite }
+{
+    let Some(output) = regular_at(rt, path)? else {
         return Ok(false);
     };
     if leads_to(rt, options.file.as_str(), &output)? {
@@ -166,5 +169,17 @@ pub fn is_output_read(rt: &impl Files, options: &Options) -> Result<bool, Symbol
     match &options.image {
         Some(image) => leads_to(rt, image.as_str(), &output),
         None => Ok(false),
+    }
+}
+
+/// Whether the file of `--output` is the database or the image. Where a store's file lies is known
+/// only by the identity of the database.
+///
+/// # Errors
+/// Out of memory.
+pub fn is_output_read(rt: &impl Files, options: &Options) -> Result<bool, SymbolsFault> {
+    match &options.target {
+        Target::File(path) => is_read(rt, options, path.as_str()),
+        _ => Ok(false),
     }
 }

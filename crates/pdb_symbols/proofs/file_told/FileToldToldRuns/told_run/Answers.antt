@@ -11,18 +11,18 @@ returns-clause-told g c = elim c.match-place.branch [
       let run = w.in_ok-run-in-Some in
       rw (w.self-is, w.run-is) (λ known.
       run_told c.args.self.now.inlines old.flags old.order (streams old.contents)
-      c.address_map.result.now c.args.address c.address_run-place.result.1 run.run'.count
-      c.address_run-place.result.0 w.in-Some.place run.run'.told
-      (c.address_map.ensures.map (known_before old new w.told_read.ensures.contents
+      c.address_map-map.result.now c.args.address c.place_run-place.result.1 run.run'.count
+      c.place_run-place.result.0 w.in-Some.place run.run'.told
+      (c.address_map-map.ensures.map (known_before old new w.told_read.ensures.contents
       w.told_read.ensures.grows known))
-      w.in-Some.is c.address_run-place.ensures.along run.ensures.within (run.ensures.told known))
+      c.place_run-place.ensures.place w.in-Some.is c.place_run-place.ensures.along run.ensures.within (run.ensures.told known))
   | in-None w ↦
       let old = c.args.self.now.symbolizer in
       rw (w.self-is, w.run-is) (λ known.
       none_told c.args.self.now.inlines old.flags old.order (streams old.contents)
-      c.address_map.result.now c.args.address c.address_run-place.result.1
-      c.address_run-place.result.0 (c.address_map.ensures.map known) w.in-None.is
-      c.address_run-place.ensures.along)
+      c.address_map-map.result.now c.args.address c.place_run-place.result.1
+      c.place_run-place.result.0 (c.address_map-map.ensures.map known) c.place_run-place.ensures.place w.in-None.is
+      c.place_run-place.ensures.along)
 ]
 
 pub returns-clause-ends : goal.returns-clause-ends
@@ -32,16 +32,16 @@ returns-clause-ends g c = elim c.match-place.branch [
       let new = w.told_read.new.symbolizer in
       let run = w.in_ok-run-in-Some in
       rw (w.self-is, w.run-is) (λ known.
-      run_ends old.flags old.order (streams old.contents) c.address_map.result.now c.args.address
-      c.args.end c.address_run-place.result.1 run.run'.count c.address_run-place.result.0
+      run_ends old.flags old.order (streams old.contents) c.address_map-map.result.now c.args.address
+      c.args.end c.place_run-place.result.1 run.run'.count c.place_run-place.result.0
       w.in-Some.place
-      (c.address_map.ensures.map (known_before old new w.told_read.ensures.contents
+      (c.address_map-map.ensures.map (known_before old new w.told_read.ensures.contents
       w.told_read.ensures.grows known))
-      w.in-Some.is c.address_run-place.ensures.along c.address_run-place.ensures.ends
+      c.place_run-place.ensures.place w.in-Some.is c.place_run-place.ensures.along c.place_run-place.ensures.ends
       run.ensures.within (run.ensures.ends known))
   | in-None w ↦
       let old = c.args.self.now.symbolizer in
       rw (w.self-is, w.run-is) (λ known lt.
-      breaks_begin old.flags old.order (streams old.contents) c.address_map.result.now _
-      (c.address_map.ensures.map known) (c.address_run-place.ensures.ends lt))
+      breaks_begin old.flags old.order (streams old.contents) c.address_map-map.result.now _
+      (c.address_map-map.ensures.map known) (c.place_run-place.ensures.ends lt))
 ]
