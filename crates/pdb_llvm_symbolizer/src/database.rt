@@ -2,14 +2,13 @@
 
 use crate::arguments::Arguments;
 use crate::folders::{find_in, joined, unless_memory};
-use crate::image_file::read_image;
 use crate::open_error::OpenError;
 use crate::regular_file::open_regular;
 use crate::stores::find_in_stores;
 use bumpalo::Bump;
 use pdb_addr2line::{ContributionOrder, FileOnDemand, FileSymbolizer, TypeFormatterFlags};
 use pdb_file_views::reach;
-use pdb_image::{Image, PdbIdentity};
+use pdb_image::{Image, PdbIdentity, read_image};
 use pdb_llvm_protocol::{split_identity, without_architecture};
 use std::alloc::{AllocError, Global};
 use std::fs;
@@ -175,6 +174,12 @@ fn database_of_image<'a, F: FileExt + Drop>(
     }
 }
 
+/// The bytes of an image, as far as its headers and its sections' data reach.
+fn image_bytes(rt: &(impl Files + AllocGlobal), path: &str) -> io::Result<Vec<u8>> {
+    let (mut file, _) = open_regular(rt, path)?;
+    read_image(rt.alloc(), &mut file)
+}
+
 /// Reads the database of an image.
 fn open_image<'a, F: FileExt + Drop>(
     rt: &(impl Files<File = F> + AllocGlobal),
@@ -182,7 +187,7 @@ fn open_image<'a, F: FileExt + Drop>(
     file: &str,
     arguments: &Arguments,
 ) -> Result<Database<'a, F>, OpenError> {
-    let image = read_image(rt, file)?;
+    let image = image_bytes(rt, file)?;
     let record = image_record(rt.alloc(), image.as_slice())?;
     let database = database_of_image(rt, arena, file, &record, arguments)?;
     load(rt.alloc(), database, record.base, Some(record.identity))

@@ -15,7 +15,6 @@ mod first_row;
 mod folders;
 mod given_words;
 mod help;
-mod image_file;
 mod lines;
 mod loaded;
 mod names;
