@@ -71,6 +71,33 @@ fn together(alloc: Global, name: &str, changes: &[Change]) -> Result<Change, All
     Ok(sum)
 }
 
+/// Writes the rows of changes.
+fn write_rows<W: Write + Drop>(changes: &[Change], output: &mut Output<W>) -> Result<(), Fault> {
+    for change in changes {
+        write_row(change, output)?;
+    }
+    Ok(())
+}
+
+/// Writes what changes make together that are left out, if any are, and then the totals.
+fn write_sums<W: Write + Drop>(
+    alloc: Global,
+    others: &[Change],
+    old: &[Size],
+    new: &[Size],
+    output: &mut Output<W>,
+) -> Result<(), Fault> {
+    if !others.is_empty() {
+        write_row(&together(alloc, "(others)", others)?, output)?;
+    }
+    let total = Change {
+        name: String::from_str(alloc, "(total)")?,
+        old: total_of(old),
+        new: total_of(new),
+    };
+    write_row(&total, output)
+}
+
 /// Writes what changed from sizes to others, the largest change first; in lines for people then
 /// what is left out where only `top` are written, and the totals. Both are in the order of their
 /// names.
@@ -84,23 +111,13 @@ pub fn write<W: Write + Drop>(
     top: Option<usize>,
     output: &mut Output<W>,
 ) -> Result<(), Fault> {
+    output.header(COLUMNS)?;
     let changes = largest_first(alloc, changes_of(alloc, old, new)?)?;
     let count = top.unwrap_or(changes.len()).min(changes.len());
     let (listed, others) = changes.as_slice().split_at(count);
-    output.header(COLUMNS)?;
-    for change in listed {
-        write_row(change, output)?;
+    write_rows(listed, output)?;
+    if output.is_text() {
+        return write_sums(alloc, others, old, new, output);
     }
-    if !output.is_text() {
-        return Ok(());
-    }
-    if !others.is_empty() {
-        write_row(&together(alloc, "(others)", others)?, output)?;
-    }
-    let total = Change {
-        name: String::from_str(alloc, "(total)")?,
-        old: total_of(old),
-        new: total_of(new),
-    };
-    write_row(&total, output)
+    Ok(())
 }

@@ -9,7 +9,7 @@ use crate::output::{Output, text_or_unknown};
 use bumpalo::Bump;
 use pdb_addr2line::{FileOnDemand, PdbIdentity};
 use pdb_container::{half_at, word_at};
-use pdb_image::{Image, ImageError};
+use pdb_image::{Image, ImageError, read_image};
 use pdb_listings::{Column, Counts, Named, SymbolCounts, Value, add_bytes, listed};
 use pdb_symbols_modules::{MachineType, Module};
 use std::alloc::{AllocError, Global};
@@ -235,28 +235,47 @@ fn all_compilers(
     Ok(text)
 }
 
+/// The bytes of an image, as far as its headers and its sections' data reach.
+fn image_bytes(rt: &(impl Files + AllocGlobal), path: &str) -> io::Result<Vec<u8>> {
+    let mut file = fs::open(rt, path)?;
+    read_image(rt.alloc(), &mut file)
+}
+
+/// The identity of the database that an image names, if it names one.
+fn identity_named(alloc: Global, path: &str, image: &[u8]) -> Result<Option<PdbIdentity>, Fault> {
+    let record = match Image::parse(image) {
+        Ok(image) => image.code_view(),
+        Err(error) => Err(error),
+    };
+    match record {
+        Ok(None) => Ok(None),
+        Ok(Some(record)) => Ok(Some(record.identity())),
+        Err(error) => Err(image_fault(alloc, path, error)?),
+    }
+}
+
+/// The identity of the database that the image at a path names, if it names one.
+fn identity_of_image(
+    rt: &(impl Files + AllocGlobal),
+    path: &str,
+) -> Result<Option<PdbIdentity>, Fault> {
+    match image_bytes(rt, path) {
+        Ok(bytes) => identity_named(rt.alloc(), path, &bytes),
+        Err(error) => Err(read_fault(rt.alloc(), path, error.kind())),
+    }
+}
+
 /// Whether an image fits a database of this identity: `yes`, or why not.
 fn image_fits(
     rt: &(impl Files + AllocGlobal),
     path: &str,
     identity: PdbIdentity,
 ) -> Result<String, Fault> {
+    let named = identity_of_image(rt, path)?;
     let alloc = rt.alloc();
-    let bytes = match fs::read(rt, path) {
-        Ok(bytes) => bytes,
-        Err(error) => return Err(read_fault(alloc, path, error.kind())),
-    };
-    let record = match Image::parse(&bytes) {
-        Ok(image) => match image.code_view() {
-            Ok(record) => record,
-            Err(error) => return Err(image_fault(alloc, path, error)?),
-        },
-        Err(error) => return Err(image_fault(alloc, path, error)?),
-    };
-    let Some(record) = record else {
+    let Some(other) = named else {
         return Ok(String::from_str(alloc, "no: the image names no database")?);
     };
-    let other = record.identity();
     if identity.matches(&other) {
         return Ok(String::from_str(alloc, "yes")?);
     }

@@ -105,8 +105,26 @@ fn write_range<W: Write + Drop>(
     Ok(())
 }
 
-/// Writes the runs of a database's sections in which code may run; none where the address map is
-/// out of order.
+/// Writes the runs of the sections in which code may run.
+fn write_sections<W: Write + Drop>(
+    alloc: Global,
+    context: &mut FileContext<'_>,
+    map: &AddressMap<'_>,
+    lines: &mut Lines<'_, W>,
+) -> Result<(), Fault>
+    requires { IsOrdered map.now }
+{
+    for header in map.image_section_headers() {
+        if header.characteristics.execute() {
+            let start = header.virtual_address;
+            let range = (start, start.saturating_add(header.virtual_size));
+            write_range(alloc, context, map, range, lines)?;
+        }
+    }
+    lines.end()
+}
+
+/// Writes the runs of a database's sections in which code may run.
 ///
 /// # Errors
 /// Why not all are written.
@@ -115,19 +133,9 @@ pub fn write<W: Write + Drop>(
     loaded: Loaded<'_>,
     output: &mut Output<W>,
 ) -> Result<(), Fault> {
-    let mut context = loaded.context(alloc)?;
-    let map = loaded.held.address_map();
     output.header(COLUMNS)?;
-    if !map.is_ordered() {
-        return Ok(());
-    }
+    let map = loaded.address_map(alloc)?;
+    let mut context = loaded.context(alloc)?;
     let mut lines = Lines { output, last: None };
-    for header in map.image_section_headers() {
-        if header.characteristics.execute() {
-            let start = header.virtual_address;
-            let range = (start, start.saturating_add(header.virtual_size));
-            write_range(alloc, &mut context, map, range, &mut lines)?;
-        }
-    }
-    lines.end()
+    write_sections(alloc, &mut context, map, &mut lines)
 }

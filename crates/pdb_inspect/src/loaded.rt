@@ -1,5 +1,8 @@
 //! A database that is loaded.
 
+ghost use Rattle.std.specs.Prelude.{IfOk};
+ghost use Rattle.pdb_addresses.specs.Addresses.{IsOrdered};
+
 use crate::fault::{Fault, file_fault, load_fault, read_fault};
 use crate::opened_file::open;
 use bumpalo::Bump;
@@ -7,6 +10,7 @@ use pdb_addr2line::{
     ContributionOrder, FileContext, FileOnDemand, FileSymbolizer, Held, KeptModules, LoadFault,
     NotLoaded, TRIES, TypeFormatterFlags,
 };
+use pdb_addresses::AddressMap;
 use pdb_container::{Error, Result as ReadResult, StringTable};
 use pdb_file_views::{FileSource, Wanted};
 use pdb_symbols_modules::PDB;
@@ -116,6 +120,21 @@ where
 }
 
 impl<'a> Loaded<'a> {
+    /// The address map of the database.
+    ///
+    /// # Errors
+    /// `Load` where it is out of order; `OutOfMemory`.
+    pub fn address_map(self, alloc: Global) -> Result<&'a AddressMap<'static>, Fault>
+        ensures { IfOk result (λ map. IsOrdered map.now) }
+    {
+        let map = self.held.address_map();
+        if map.is_ordered() {
+            return Ok(map);
+        }
+        let fault = LoadFault::AddressTableDecreases;
+        Err(load_fault(alloc, self.path, fault))
+    }
+
     /// A context over the database.
     ///
     /// # Errors

@@ -140,14 +140,16 @@ fn unless_empty(text: &str) -> Value<'_> {
     }
 }
 
-/// Writes the row of a module.
+/// Writes the row of a module, whose number is given.
 fn write_module<W: Write + Drop>(
     alloc: Global,
-    bytes: PartBytes,
+    loaded: Loaded<'_>,
+    number: usize,
     module: &Module<'_>,
-    compiler: &Option<String>,
+    bytes: PartBytes,
     output: &mut Output<W>,
 ) -> Result<(), Fault> {
+    let compiler = compiler(alloc, loaded, number, module)?;
     let Ok(name) = module.module_name(alloc) else {
         return Err(Fault::OutOfMemory);
     };
@@ -158,9 +160,34 @@ fn write_module<W: Write + Drop>(
         bytes,
         Value::Text(&name),
         unless_empty(&library),
-        text_or_unknown(compiler),
+        text_or_unknown(&compiler),
         output,
     )
+}
+
+/// Writes the rows of modules, each with the bytes of its parts.
+fn write_modules<W: Write + Drop>(
+    alloc: Global,
+    loaded: Loaded<'_>,
+    modules: &[Module<'_>],
+    parts: &[PartBytes],
+    output: &mut Output<W>,
+) -> Result<(), Fault> {
+    for (number, (module, bytes)) in modules.iter().zip(parts).enumerate() {
+        write_module(alloc, loaded, number, module, *bytes, output)?;
+    }
+    Ok(())
+}
+
+/// Writes the row of what was contributed by no module, if anything was.
+fn write_others<W: Write + Drop>(parts: &[PartBytes], output: &mut Output<W>) -> Result<(), Fault> {
+    match parts.last() {
+        Some(bytes) if !bytes.is_empty() => {
+            let name = Value::Text("(no module)");
+            write_row(*bytes, name, Value::Unknown, Value::Unknown, output)
+        }
+        _ => Ok(()),
+    }
 }
 
 /// Writes the modules of a database with their bytes, and then what was contributed by no module,
@@ -176,16 +203,6 @@ pub fn write<W: Write + Drop>(
     let modules = modules_of(alloc, loaded)?;
     let parts = bytes_of(alloc, &sizes_of_modules(alloc, loaded)?, modules.len())?;
     output.header(COLUMNS)?;
-    for (number, (module, bytes)) in modules.iter().zip(&parts).enumerate() {
-        let compiler = compiler(alloc, loaded, number, module)?;
-        write_module(alloc, *bytes, module, &compiler, output)?;
-    }
-    let Some(bytes) = parts.last() else {
-        return Ok(());
-    };
-    if bytes.is_empty() {
-        return Ok(());
-    }
-    let name = Value::Text("(no module)");
-    write_row(*bytes, name, Value::Unknown, Value::Unknown, output)
+    write_modules(alloc, loaded, &modules, &parts, output)?;
+    write_others(&parts, output)
 }

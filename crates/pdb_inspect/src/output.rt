@@ -1,7 +1,6 @@
 //! The output of a listing.
 
 use crate::fault::Fault;
-use pdb_engine::{Watched, write_all};
 use pdb_listings::{Column, Field, Format, Value, append_header, append_row};
 use std::alloc::Global;
 use std::io::Write;
@@ -12,7 +11,7 @@ const AT_ONCE: usize = 65_536;
 /// An output that rows are written to, in a form.
 #[derive(Drop)]
 pub struct Output<W: Drop> {
-    writer: Watched<W>,
+    writer: W,
     alloc: Global,
     format: Format,
     waiting: Vec<u8>,
@@ -22,7 +21,7 @@ impl<W: Write + Drop> Output<W> {
     /// An output in a form.
     pub fn new(alloc: Global, writer: W, format: Format) -> Output<W> {
         Output {
-            writer: Watched::new(writer),
+            writer,
             alloc,
             format,
             waiting: Vec::new(alloc),
@@ -39,7 +38,7 @@ impl<W: Write + Drop> Output<W> {
     /// # Errors
     /// `Write`.
     pub fn flush(&mut self) -> Result<(), Fault> {
-        match write_all(&mut self.writer, &self.waiting) {
+        match self.writer.write_all(&self.waiting) {
             Ok(()) => {
                 self.waiting.clear();
                 Ok(())

@@ -59,12 +59,9 @@ fn by_function(
     loaded: Loaded<'_>,
     undecorate: bool,
 ) -> Result<Counts<Named>, Fault> {
-    let context = loaded.context(alloc)?;
-    let map = loaded.held.address_map();
-    if !map.is_ordered() {
-        return Ok(Counts::new(alloc));
-    }
+    let map = loaded.address_map(alloc)?;
     let end = end_of(map);
+    let context = loaded.context(alloc)?;
     Ok(function_sizes(alloc, map, context, 0, end, undecorate)?)
 }
 
@@ -74,19 +71,17 @@ fn by_function_joined(
     loaded: Loaded<'_>,
     undecorate: bool,
 ) -> Result<Counts<Named>, Fault> {
-    let context = loaded.context(alloc)?;
     let contributions = contributions_of(alloc, loaded)?;
+    let context = loaded.context(alloc)?;
     Ok(joined_sizes(alloc, context, &contributions, undecorate)?)
 }
 
 /// Bytes by source file, or by its folder.
 fn by_file(alloc: Global, loaded: Loaded<'_>, by_folder: bool) -> Result<Counts<Named>, Fault> {
+    let map = loaded.address_map(alloc)?;
+    let end = end_of(map);
     let context = loaded.context(alloc)?;
-    let map = loaded.held.address_map();
-    if !map.is_ordered() {
-        return Ok(Counts::new(alloc));
-    }
-    Ok(file_sizes(alloc, map, context, 0, end_of(map), by_folder)?)
+    Ok(file_sizes(alloc, map, context, 0, end, by_folder)?)
 }
 
 /// Adds bytes of a module to its name, or to that of its library.
