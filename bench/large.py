@@ -3,10 +3,11 @@
 
 OUT is the folder of run.sh, with its databases `small` and `large`. It gets the databases of 1 GB:
 `small` extended by free pages; `large` with its modules 18 times over, which hold what one of them
-did; and the same where each holds as much. PROGRAM is the path of pdb_symbolizer, of pdb_llvm_symbolizer, of llvm-symbolizer, or of the ported crate's program that
-run.sh builds. Those named after llvm-symbolizer are asked by image. Times are processor seconds,
-the least of five runs in turn. What is read of a database is counted by strace, if that is
-installed. Debian: strace, llvm-19."""
+did; and the same where each holds as much. PROGRAM is the path of pdb_symbolizer, of
+pdb_llvm_symbolizer, of llvm-symbolizer, or of the ported crate's program that run.sh builds. Those
+named after llvm-symbolizer are asked by image. Times are processor seconds, the least of five runs
+in turn. What is read of a database is counted by strace, if that is installed. Debian: strace,
+llvm-19."""
 import os
 import re
 import shutil
