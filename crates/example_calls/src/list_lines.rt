@@ -62,7 +62,7 @@ fn list_modules(
     Ok(())
 }
 
-/// Lists a module. One without a stream of its own is listed by its name alone.
+/// Lists a module. A module without a stream of its own is listed by its name alone.
 fn list_module(
     rt: &(impl Print + AllocGlobal),
     database: &mut Database,

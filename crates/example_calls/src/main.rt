@@ -2,10 +2,10 @@
 //! `example_calls FILE LISTED ADDRESS..`.
 //!
 //! For each ADDRESS, which is hexadecimal and image-relative, it prints the function there and its
-//! frames. Then it prints all functions, each with its source file and line; the frames again, by a
-//! file that is read on demand; what formatters say of two types of the file, that file's first;
-//! and the functions again, without their arguments. It prints how many addresses each has, and at
-//! last the lines of the file LISTED, module by module (`list_lines.rt`).
+//! frames. Then it prints all functions, each with its source file and line; the frames again, from
+//! a file that is read on demand; the texts of formatters for two types of the file, this file's
+//! first; and the functions again, without their arguments. It prints the number of each function's
+//! addresses, and at last the lines of the file LISTED, module by module (`list_lines.rt`).
 //!
 //! Calls may be added. docs/GUIDE.md and the heads of libraries show pieces of it, so these change
 //! together.
@@ -33,7 +33,7 @@ use std::os::unix::fs::FileExt;
 use std::rt::{Env, Files};
 use std::{env, fs};
 
-/// How the program is called.
+/// The usage of the program.
 const USAGE: &str = "usage: example_calls FILE LISTED ADDRESS..";
 
 fn main(rt: HostRuntime) -> Result<()> {
@@ -114,7 +114,7 @@ fn tell_frame(rt: &impl Print, frame: &Frame<'_>) -> Result<()> {
     tell_row(rt, frame.row)
 }
 
-/// Prints the row that a line comes from, if it is known.
+/// Prints the row from which a line comes, if it is known.
 fn tell_row(rt: &impl Print, row: Option<FrameRow>) -> Result<()> {
     if let Some(row) = row {
         let start = row.start_rva;
@@ -168,8 +168,8 @@ fn tell_function(rt: &impl Print, function: &Function) -> Result<()> {
     Ok(())
 }
 
-/// Prints the frames at each address of the program's arguments, by a file of which just what that
-/// takes is read.
+/// Prints the frames at each address of the program's arguments, from a file of which no more is
+/// read than they need.
 fn tell_on_demand<S: Env + Files + Print + AllocGlobal>(rt: &S, path: &str) -> Result<()>
 where
     S::File: FileExt,
@@ -184,8 +184,8 @@ where
     }
 }
 
-/// Prints the frames at each address of the program's arguments, by a file that is read on demand,
-/// and what a formatter says of types.
+/// Prints the frames at each address of the program's arguments, from a file that is read on
+/// demand, and the texts of a formatter for types.
 fn tell_demanded<F: FileExt + Drop>(
     rt: &(impl Env + Print + AllocGlobal),
     symbolizer: &mut FileSymbolizer<'_, F>,
@@ -203,7 +203,7 @@ fn tell_demanded<F: FileExt + Drop>(
     tell_texts(rt, symbolizer.type_formatter(rt.alloc(), flags)?)
 }
 
-/// Prints what formatters say of types, and all functions without their arguments.
+/// Prints the texts of formatters for types, and all functions without their arguments.
 fn tell_types(rt: &(impl Print + AllocGlobal), symbolizer: &Symbolizer) -> Result<()> {
     let flags = TypeFormatterFlags::default();
     tell_texts(rt, symbolizer.type_formatter(rt.alloc(), flags)?)?;
@@ -226,7 +226,7 @@ fn tell_texts<P: ModuleProvider>(
     Ok(())
 }
 
-/// Writes how many addresses of the whole image each function has.
+/// Writes the number of addresses of the whole image that each function has.
 fn write_sizes<W: Write>(alloc: Global, bytes: Vec<u8>, writer: &mut Watched<W>) -> Result<()> {
     match run_sizes(alloc, bytes, 0, 0xffffffff, writer) {
         Ok(_) => Ok(()),

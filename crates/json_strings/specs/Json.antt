@@ -7,7 +7,7 @@ use Rattle.std.specs.List.{flat_map}
 abbrev pub digit : ℕ → ℕ
 digit n = if nat_lt n 10 then 48 + n else 87 + n
 
--- what stands for a byte: quotes, backslashes and control characters are escaped
+-- a byte of a string: quotes, backslashes and control characters are escaped
 abbrev pub escaped : ℕ → List ℕ
 escaped b =
     if b == 34 then codes "\\\""

@@ -1,6 +1,6 @@
 //! Strings of JSON, as RFC 8259 has them.
 //!
-//! What is escaped may not change: readers compare lines.
+//! The set of bytes that are escaped may not change: readers compare lines.
 #![tactic(auto)]
 
 ghost use Rattle.std.specs.Prelude.{◌≡◌, ◌++◌, ◌∷◌, [], ◌<◌, ◌/◌, ◌%◌, OnOk, codes};
@@ -30,7 +30,7 @@ fn append_control(output: &mut Vec<u8>, byte: u8) -> Result<(), AllocError>
     output.extend_from_slice(&[digit(byte / 16), digit(byte % 16)])
 }
 
-/// Appends what stands for a byte in a string.
+/// Appends a byte of a string: a quote, a backslash or a control character is escaped.
 fn append_escaped(output: &mut Vec<u8>, byte: u8) -> Result<(), AllocError>
     ensures { OnOk result (output.new.items ≡ output.old.items ++ escaped byte) }
 {
@@ -42,8 +42,7 @@ fn append_escaped(output: &mut Vec<u8>, byte: u8) -> Result<(), AllocError>
     }
 }
 
-/// Appends what stands for bytes in a string: quotes, backslashes and control characters are
-/// escaped.
+/// Appends bytes of a string: quotes, backslashes and control characters are escaped.
 ///
 /// # Errors
 /// `AllocError` when memory runs out; a part may be appended then.

@@ -1,10 +1,10 @@
--- How long an answer is.
+-- The length of an answer.
 use Rattle.std.specs.Prelude.{◌≡◌, ℕ, List, Option, Some}
 use Rattle.std.specs.Vec.{vec_len}
 use Rattle.msvc_demangler.specs.declared.answer.Demangled.{Demangled}
 use Rattle.msvc_demangler.specs.declared.answer.Demangled.TheVariants.{Text, Undecorated}
 
--- how many bytes the text has
+-- the number of the text's bytes
 abbrev pub text_length : Demangled → ℕ
 text_length (Text text) = vec_len text
 text_length Undecorated = 0

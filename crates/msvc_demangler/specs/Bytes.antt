@@ -9,6 +9,6 @@ is_digit b = nat_le 48 b && nat_le b 57
 abbrev pub begins : ℕ → List ℕ → Bool
 begins b text = slice_index text 0 == b
 
--- what comes after a byte that may stand at the head of a text
+-- the rest of a text after a byte that may stand at its head
 abbrev pub after_optional : ℕ → List ℕ → List ℕ
 after_optional b text = if begins b text then drop 1 text else text

@@ -12,7 +12,7 @@ ends_with_at text = nat_lt 0 (length text) && (slice_index text (length text - 1
 abbrev pub but_last : List ℕ → List ℕ
 but_last text = take (length text - 1) text
 
--- what stands before an @ after which only digits stand, if there is one
+-- the part before an @ after which only digits stand, if there is one
 unfoldable pub before_size : List ℕ → Option (List ℕ)
 before_size name =
     let front = take (length name - suffix_len is_digit name) name in
@@ -31,6 +31,6 @@ abbrev pub by_size : Option (List ℕ) → List ℕ → List ℕ
 by_size None name = after_mark name
 by_size (Some front) name = before_convention front
 
--- the name of a C function: what ? begins is no such name
+-- the name of a C function: one that begins with ? is no such name
 unfoldable pub c_name : List ℕ → List ℕ
 c_name name = if begins 63 name then name else by_size (before_size name) name

@@ -83,7 +83,7 @@ byte_digits b = digit (b / 16) ∷ digit (b % 16) ∷ []
 unfoldable pub significant : List ℕ → List ℕ
 significant bytes = drop (unwrap_or (position (λ b. not (b == 0)) bytes) (length bytes)) bytes
 
--- a character by its bytes, or itself where it is printed as it is
+-- a character as its bytes, or itself where it is printed as it is
 abbrev pub by_bytes : ℕ → Text
 by_bytes c =
     if nat_lt 31 c && nat_lt c 127 then c ∷ []
@@ -98,13 +98,13 @@ escaped_or (Some letter) text = 92 ∷ letter ∷ []
 unfoldable pub written : ℕ → Text
 written c = escaped_or (escape c) (by_bytes c)
 
--- how many bytes a character has, where that many bytes are 0, and 4 or 2 need so many
+-- the number of bytes of a character, where that many bytes are 0, and 4 or 2 need so many
 abbrev pub size_by : ℕ → ℕ → ℕ → ℕ → ℕ
 size_by zeros for_four for_two size =
     if nat_le for_four zeros && (size % 4 == 0) then 4 else (if nat_le for_two zeros then 2 else 1)
 
--- How many bytes a character has, by the first bytes of a string and its size. A short string has
--- a character 0 at its end, and of a longer one two thirds or one third of the bytes are 0.
+-- The number of bytes of a character, from the first bytes of a string and its size. A short string
+-- has a character 0 at its end, and of a longer one two thirds or one third of the bytes are 0.
 unfoldable pub character_size : List ℕ → ℕ → ℕ
 character_size bytes size =
     if size % 2 == 1 then 1

@@ -22,7 +22,7 @@ use Rattle.msvc_demangler.specs.declared.parser.Parser.{Parser}
 use Rattle.msvc_demangler.specs.Texts.{SameTasks, handed, text_at}
 use Rattle.msvc_demangler.specs.Words.{Text}
 
--- what comes after the first @
+-- the rest after the first @
 unfoldable pub after_at : List ℕ → Option (List ℕ)
 after_at text = option_map (λ place. drop (place + 1) text) (position (λ b. b == 64) text)
 
@@ -35,7 +35,7 @@ sized n = if n.0.is_negative then None
 unfoldable pub sized_of : List ℕ → Option (ℕ × List ℕ)
 sized_of text = option_and_then sized (number_of text)
 
--- what comes after the @ that a text begins with
+-- the rest after the @ that a text begins with
 unfoldable pub ended : List ℕ → Option (List ℕ)
 ended text = if begins 64 text then Some (drop 1 text) else None
 
@@ -61,23 +61,23 @@ joined size zero bytes = []
 joined size (suc count) bytes =
     from_le_bytes w32 (take size bytes) ∷ joined size count (drop size bytes)
 
--- how many characters of that many bytes are printed: all if the string is cut off, else all but
--- the last, which ends it
+-- the number of characters of that many bytes that are printed: all if the string is cut off,
+-- otherwise all but the last, which ends it
 abbrev pub printed : ℕ → List ℕ → Bool → ℕ
 printed size bytes is_cut =
     if is_cut then length bytes / size else length bytes / size - 1
 
--- what stands before a string of characters of that many bytes
+-- the text before a string of characters of that many bytes
 abbrev pub prefix : ℕ → Text
 prefix size =
     if size == 1 then codes "\"" else if size == 2 then codes "u\"" else codes "U\""
 
--- what stands after a string
+-- the text after a string
 abbrev pub suffix : Bool → Text
 suffix is_cut = if is_cut then codes "\"..." else codes "\""
 
--- the text of a string by its first bytes, of characters of one size, and its size in bytes: it is
--- cut off if it has more
+-- the text of a string, from its first bytes, of characters of one size, and its size in bytes: it
+-- is cut off if it has more
 unfoldable pub narrow_text : ℕ → List ℕ → Text
 narrow_text size bytes =
     let width = character_size bytes size in
@@ -91,8 +91,8 @@ abbrev pub but_end : ℕ → List ℕ → List ℕ
 but_end size characters =
     if nat_lt 64 size || (size % 2 == 1) then characters else remove characters (size / 2 - 1)
 
--- the text of a string of wchar_t by its first characters, and its size in bytes: it is cut off if
--- it has more than 64
+-- the text of a string of wchar_t, from its first characters, and its size in bytes: it is cut off
+-- if it has more than 64
 unfoldable pub wide_text : ℕ → List ℕ → Text
 wide_text size characters =
     (codes "L\"" ++ flat_map written (but_end size characters)) ++ suffix (nat_lt 64 size)
@@ -129,23 +129,23 @@ literal_text text = option_map (λ l. l.0) (literal_of text)
 abbrev pub read_characters : {X : Type 0} → Option (Vec X × Bor (List ℕ)) → Option (List X × List ℕ)
 read_characters o = option_map (λ r. (r.0.items, r.1.now)) o
 
--- the text of a literal: what stands before, the characters, and what stands after
+-- the text of a literal: the text before, the characters, and the text after
 abbrev pub quoted : Quotes → Text → Text
 quoted quotes text = (quotes.before.now ++ text) ++ quotes.after.now
 
--- characters are appended to an empty text; with what stands about them they are a string
+-- characters are appended to an empty text; with the texts around them they are a string
 abbrev pub AppendsQuoted : {E : Type 0} → Text → Vec ℕ → Vec ℕ → Result Quotes E → Type 0
 AppendsQuoted string old new result =
     old.items ≡ [] → IfOk result (λ quotes. quoted quotes new.items ≡ string)
 
--- a string at the head of a text is appended in this way, and what comes after it is given
+-- a string at the head of a text is appended in this way, and the rest after it is returned
 abbrev pub SplitsString : {E : Type 0} → Option (Text × List ℕ) → Vec ℕ → Vec ℕ
     → Result (Option (Quotes × Bor (List ℕ))) E → Type 0
 SplitsString string old new result =
     old.items ≡ []
     → IfOk result (λ o. option_map (λ r. (quoted r.0 new.items, r.1.now)) o ≡ string)
 
--- a text of a tree, with what stands before and after it
+-- a text of a tree, with the texts before and after it
 abbrev pub enclosed : List ℕ → Bor (List ℕ) → Span → Bor (List ℕ) → Text
 enclosed texts before span after = (before.now ++ text_at texts span) ++ after.now
 
@@ -185,7 +185,7 @@ marked_literal text = literal_text (drop 3 text)
 abbrev pub HandsOn : Option Text → Parser → Parser → Type 0
 HandsOn text p q = (handed_literal q ≡ text) × SameTasks p q × IsSome text
 
--- what is left is of a kind, and is read: the text that it stands for is handed on
+-- the rest is of a kind, and is read: the text that it stands for is handed on
 abbrev pub ReadsAs : {A E : Type 0} → (List ℕ → Bool) → (List ℕ → Option Text) → Parser → Parser
     → Result A E → Type 0
 ReadsAs is_kind text_of p q result =

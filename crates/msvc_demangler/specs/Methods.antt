@@ -1,4 +1,4 @@
--- What the letter of a method says of it.
+-- The kind of a method, from its letter.
 use Rattle.std.specs.Prelude.{ℕ, ◌-◌, ◌/◌, ◌%◌, ◌==◌, ◌&&◌, ◌||◌, nat_le, not, if◌then◌else◌}
 use Rattle.std.specs.Prelude.{Option, None, Some, codes}
 use Rattle.msvc_demangler.specs.declared.words.Access.{Access}
@@ -6,7 +6,7 @@ use Rattle.msvc_demangler.specs.declared.words.Access.TheVariants.{Private, Prot
 use Rattle.msvc_demangler.specs.declared.methods.MethodClass.{MethodClass}
 use Rattle.msvc_demangler.specs.Words.{Text}
 
--- who may call the methods of a group of eight letters
+-- the access to the methods of a group of eight letters
 abbrev pub access : ℕ → Access
 access group = if group == 0 then Private else (if group == 1 then Protected else Public)
 
@@ -25,8 +25,8 @@ unfoldable pub method_class : ℕ → Option MethodClass
 method_class b =
     if nat_le 65 b && nat_le b 88 then Some (method_in ((b - 65) / 8) ((b - 65) % 8 / 2)) else None
 
--- who may see a variable, by the digit of its storage: 0 to 2 are static members, 3 is global and 4
--- local to a function
+-- the access to a variable, by the digit of its storage: 0 to 2 are static members, 3 is global and
+-- 4 local to a function
 unfoldable pub storage : ℕ → Option (Option Access)
 storage b =
     if b == 48 then Some (Some Private)
@@ -35,7 +35,7 @@ storage b =
     else if (b == 51) || (b == 52) then Some None
     else None
 
--- who may call the virtual method whose thunk has a digit, by pairs of digits
+-- the access to the virtual method whose thunk has a digit, by pairs of digits
 unfoldable pub thunk_access : ℕ → Option Access
 thunk_access b =
     if (b == 48) || (b == 49) then Some Private
@@ -43,7 +43,7 @@ thunk_access b =
     else if (b == 52) || (b == 53) then Some Public
     else None
 
--- what is printed before a member
+-- the text that is printed before a member
 abbrev pub access_text : Access → Text
 access_text Private = codes "private: "
 access_text Protected = codes "protected: "

@@ -46,7 +46,7 @@ operator_name b =
     else if (b == 48) || ((b == 49) || (b == 66)) then Some []
     else None
 
--- the name that stands after ?_; empty for what has another meaning
+-- the name that stands after ?_; empty for a code that has another meaning
 unfoldable pub later_operator_name : ℕ → Option Text
 later_operator_name b =
     if b == 48 then Some (codes "operator/=")
@@ -74,7 +74,7 @@ later_operator_name b =
     else if is_code b then Some []
     else None
 
--- the name that stands after ?__; empty for what has another meaning
+-- the name that stands after ?__; empty for a code that has another meaning
 unfoldable pub last_operator_name : ℕ → Option Text
 last_operator_name b =
     if b == 65 then Some (codes "`managed vector ctor iterator'")

@@ -17,7 +17,7 @@ qualified is_const is_volatile = record {
   is_unaligned = false;
 }
 
--- the qualifiers of a letter, A to D of what is no member, Q to T of a member
+-- the qualifiers of a letter: A to D for what is no member, Q to T for a member
 unfoldable pub letter_qualifiers : ℕ → Option Qualifiers
 letter_qualifiers b =
     if (b == 65) || (b == 81) then Some (qualified false false)
@@ -27,7 +27,7 @@ letter_qualifiers b =
     else None
 
 -- the qualifiers of a pointer before its pointee, I for __restrict and F for __unaligned, after an
--- E that isn't printed; and what comes after them
+-- E that isn't printed; and the rest after them
 abbrev pub extended : List ℕ → Qualifiers × List ℕ
 extended text =
     let wide = after_optional 69 text in

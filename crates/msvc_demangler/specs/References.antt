@@ -29,14 +29,14 @@ remember names name =
 unfoldable pub remember_type : List ℕ → ℕ → List ℕ
 remember_type types node = if nat_le 10 (length types) then types else types ++ node ∷ []
 
--- those of names that no earlier one equals, nor one of others
+-- the names that no earlier one equals, nor one of others
 abbrev pub new_among : List Text → List Text → List Text
 new_among others [] = []
 new_among others (name ∷ names) =
     if is_among name others then new_among others names
     else name ∷ new_among (others ++ name ∷ []) names
 
--- what 0 to 9 stand for after some names: the first ten distinct ones
+-- the names that 0 to 9 stand for after some names: the first ten distinct ones
 abbrev pub remembered_names : List Text → List Text
 remembered_names names = take 10 (new_among [] names)
 
@@ -69,11 +69,11 @@ abbrev pub with_type : Parser → ℕ → ℕ → List ℕ
 with_type p left node =
     if nat_lt 1 (left - length p.rest.now) then remember_type (types_of p) node else types_of p
 
--- what a digit stands for among names or types, the first of which is 0
+-- the name or type that a digit stands for, of which the first is 0
 abbrev pub referred : {X : Type 0} → List X → ℕ → Option X
 referred xs digit = slice_get xs (digit - 48)
 
--- the name that an identifier is, if it has no template arguments
+-- the name of an identifier, if it has no template arguments
 abbrev pub name_in : List ℕ → Node → Option Text
 name_in texts (Identifier (Named span) None) = Some (text_at texts span)
 name_in texts _ = None

@@ -19,6 +19,6 @@ last_value p = slice_get p.values.items (vec_len p.values - 1)
 abbrev pub handed : Parser → Option Node
 handed p = option_and_then (slice_get p.tree.nodes.items) (last_value p)
 
--- what is to be read stays
+-- the tasks that are to be done stay
 abbrev pub SameTasks : Parser → Parser → Type 0
 SameTasks p q = (q.tasks.items ≡ p.tasks.items) × (q.planned.items ≡ p.planned.items)

@@ -3,7 +3,7 @@ use Rattle.std.specs.Prelude.{ℕ, ◌==◌, ◌&&◌, ◌||◌, if◌then◌els
 use Rattle.std.specs.Prelude.{codes, drop, length, nat_lt, option_map, slice_index}
 use Rattle.std.specs.Borrow.{Bor}
 
--- what is printed, as bytes
+-- a text that is printed, as bytes
 abbrev pub Text : Type 0
 Text = List ℕ
 

@@ -16,9 +16,10 @@ use std::alloc::{AllocError, Global};
 /// The work that is done for a name.
 #[derive(Clone, Copy)]
 struct Work {
-    /// How many tasks of reading.
+    /// The number of tasks of reading.
     tasks: usize,
-    /// How many pieces are printed, those included of parts that are printed to be referred to.
+    /// The number of pieces that are printed, with the pieces of parts that are printed to be
+    /// referred to.
     pieces: usize,
 }
 
@@ -31,13 +32,13 @@ pub enum Demangled {
     Undecorated,
 }
 
-/// The text of a decorated name of Visual C++, as `llvm-undname` 19 prints it, without what the
-/// flags leave out. What follows a decorated name doesn't count. Where more than 2^20 pieces and
-/// bytes would have to be printed, the name counts as one that isn't decorated, and so do names of
-/// Rust (`_R..`) and of the Itanium ABI (`_ZN..`).
+/// The text of a decorated name of Visual C++, as `llvm-undname` 19 prints it, without the parts
+/// that the flags leave out. Bytes after a decorated name don't count. Where more than 2^20 pieces
+/// and bytes would have to be printed, the name counts as one that isn't decorated, and so do names
+/// of Rust (`_R..`) and of the Itanium ABI (`_ZN..`).
 ///
 /// # Errors
-/// Memory ran out.
+/// `AllocError` when memory runs out.
 pub fn demangle(
     alloc: Global,
     name: &[u8],
@@ -58,7 +59,7 @@ pub fn demangle(
     }
 }
 
-/// The text of a name that was read, and how many pieces were printed for it in all.
+/// The text of a name that was read, and the number of pieces that were printed for it in all.
 fn print(
     parser: &Parser<'_>,
     symbol: usize,

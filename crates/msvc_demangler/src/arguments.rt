@@ -5,7 +5,7 @@ use crate::stop::{Result, Stop};
 use crate::tasks::{Mode, Place, Task};
 use crate::tree::{NO_NODE, NO_NODES, Node};
 
-/// How many offsets a pointer to a member has, by its letter.
+/// The number of offsets of a pointer to a member, by its letter.
 fn count_offsets(code: u8) -> usize {
     match code {
         b'H' => 1,
@@ -16,7 +16,7 @@ fn count_offsets(code: u8) -> usize {
 }
 
 impl<'n> Parser<'n> {
-    /// Reads what a task of template arguments says.
+    /// Reads the part that a task of template arguments says.
     pub(crate) fn run_argument(&mut self, task: Task) -> Result<()> {
         match task {
             Task::Arguments(count) => self.read_argument(count),
@@ -48,7 +48,7 @@ impl<'n> Parser<'n> {
         self.plan(more)
     }
 
-    /// Goes past a mark that separates packs of arguments, and says whether there is one.
+    /// Goes past a mark that separates packs of arguments, and returns whether there is one.
     fn take_separator(&mut self) -> bool {
         self.take(b"$S") || self.take(b"$$V") || self.take(b"$$Z") || self.take(b"$$$V")
     }

@@ -1,27 +1,27 @@
-//! How much is printed for a name.
+//! The limit on the pieces and bytes that are printed for a name.
 
 ghost use Rattle.std.specs.Prelude.{◌≡◌, ◌+◌, ◌-◌, ◌^◌, ◌≤◌};
 
-/// How much is printed for a name at most, in pieces and bytes, with those parts that are printed
-/// to be referred to. MSVC cuts decorated names off at 4,096 characters: in place of a longer one
-/// it writes `??@`, a digest and `@`. The text of a name of a hundred that refers back to
-/// references could otherwise have any length.
+/// The most pieces and bytes that are printed for a name, with those parts that are printed to be
+/// referred to. MSVC cuts decorated names off at 4,096 characters: in place of a longer one it
+/// writes `??@`, a digest and `@`. The text of a name of a hundred that refers back to references
+/// could otherwise have any length.
 const MOST_PRINTED: usize = 1 << 20;
 
-/// What was printed for a name, and how much more may be.
+/// The numbers of pieces and bytes that were printed for a name, and how many more may be.
 #[derive(Clone, Copy)]
 pub(crate) struct Budget {
-    /// How many pieces were printed.
+    /// The number of pieces that were printed.
     pub(crate) pieces: usize,
-    /// How many bytes the texts have.
+    /// The number of bytes of the texts.
     pub(crate) bytes: usize,
-    /// How many pieces and bytes may still be printed.
+    /// The number of pieces and bytes that may still be printed.
     pub(crate) left: usize,
     ghost whole: { pieces + bytes + left ≡ 2 ^ 20 },
 }
 
 impl Budget {
-    /// Nothing was printed.
+    /// A budget of which nothing was printed.
     pub(crate) fn new() -> Budget {
         Budget {
             pieces: 0,
@@ -30,7 +30,7 @@ impl Budget {
         }
     }
 
-    /// What was printed, and so many pieces and bytes more.
+    /// The budget after so many pieces and bytes more.
     pub(crate) fn after(self, pieces: usize, bytes: usize) -> Budget
         requires { pieces + bytes ≤ self.left }
         ensures pieces { result.pieces ≡ self.pieces + pieces }

@@ -10,7 +10,7 @@ pub(crate) fn byte_at(text: &[u8], place: usize) -> u8
     if place < text.len() { text[place] } else { 0 }
 }
 
-/// What comes after a byte that may stand at the head of a text.
+/// The rest of a text after a byte that may stand at its head.
 pub(crate) fn after_optional(code: u8, text: &[u8]) -> &[u8]
     requires { 0 < code }
     ensures { result.now ≡ after_optional_of code text.now }

@@ -126,7 +126,7 @@ fn push_all_digits(text: &mut Vec<u8>, bytes: &[u8]) -> Result<(), AllocError>
     Ok(())
 }
 
-/// Where the first byte stands that isn't 0.
+/// The index of the first byte that isn't 0.
 fn first_significant(bytes: &[u8]) -> Option<usize>
     ensures { result ≡ position (λ b. not (b == 0)) bytes.now }
 {
@@ -144,7 +144,7 @@ fn significant(bytes: &[u8]) -> &[u8]
     }
 }
 
-/// Appends a character by its bytes, or itself where it is printed as it is.
+/// Appends a character as its bytes, or itself where it is printed as it is.
 fn push_by_bytes(text: &mut Vec<u8>, character: u32) -> Result<(), AllocError>
     ensures { OnOk result (text.new.items ≡ text.old.items ++ by_bytes character) }
 {
@@ -167,21 +167,21 @@ pub(crate) fn push_character(text: &mut Vec<u8>, character: u32) -> Result<(), A
     }
 }
 
-/// How many bytes at the end of a string are 0.
+/// The number of bytes at the end of a string that are 0.
 fn trailing_nulls(bytes: &[u8]) -> usize
     ensures { result ≡ suffix_len (λ b. b == 0) bytes.now }
 {
     bytes.iter().rev().take_while(|byte| **byte == 0).count()
 }
 
-/// How many bytes of a string are 0.
+/// The number of bytes of a string that are 0.
 fn count_nulls(bytes: &[u8]) -> usize
     ensures { result ≡ count_by (λ b. b == 0) bytes.now }
 {
     bytes.iter().filter(|byte| **byte == 0).count()
 }
 
-/// How many bytes a character has, where that many bytes of a string are 0, and 4 or 2 need so
+/// The number of bytes of a character, where that many bytes of a string are 0, and 4 or 2 need so
 /// many.
 fn size_by_nulls(zeros: usize, for_four: usize, for_two: usize, size: u64) -> usize
     ensures { result ≡ size_by zeros for_four for_two size }
@@ -195,8 +195,8 @@ fn size_by_nulls(zeros: usize, for_four: usize, for_two: usize, size: u64) -> us
     }
 }
 
-/// How many bytes a character has, by the first bytes of a string, of which a name has at most 128,
-/// and its size.
+/// The number of bytes of a character, from the first bytes of a string, of which a name has at
+/// most 128, and the string's size.
 #[tactic(auto, unfolding(crate::specs::Characters::character_size))]
 pub(crate) fn character_size(bytes: &[u8], size: u64) -> usize
     requires { length bytes.now ≤ 128 }

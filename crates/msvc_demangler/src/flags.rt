@@ -1,6 +1,6 @@
-//! What the text of a name leaves out.
+//! The parts of a name that its text leaves out.
 
-/// What the text of a name leaves out, as the options of `llvm-undname` say.
+/// The parts of a name that its text leaves out, as the options of `llvm-undname` say.
 #[derive(Clone, Copy, Debug, Default, PartialEq, Eq)]
 pub struct DemangleFlags {
     /// `public: `, `protected: ` and `private: `.

@@ -14,7 +14,7 @@ use crate::tasks::{Front, Mode, Task};
 use crate::tree::{Adjustment, FunctionClass, Node, Parameters, Signature, Symbol, Type};
 use crate::words::{Access, convention_of};
 
-/// Who may call the virtual method whose thunk has this digit.
+/// The access to the virtual method whose thunk has this digit.
 #[tactic(auto, unfolding(crate::specs::Methods::thunk_access))]
 fn thunk_access_of(code: u8) -> Option<Access>
     ensures { result ≡ thunk_access code }
@@ -50,7 +50,7 @@ pub(crate) fn unwritten_signature(convention: &'static str) -> Type {
 }
 
 impl<'n> Parser<'n> {
-    /// Reads what a task of functions says.
+    /// Reads the part that a task of functions says.
     pub(crate) fn run_function(&mut self, task: Task) -> Result<()> {
         match task {
             Task::Signature(has_this) => self.start_signature(has_this),
@@ -67,7 +67,7 @@ impl<'n> Parser<'n> {
         }
     }
 
-    /// Reads what the code of a function says of it, and its type.
+    /// Reads the code of a function, and its type.
     fn start_function(&mut self) -> Result<()> {
         let is_extern_c = self.take(b"$$J0");
         let code = self.take_byte()?;
@@ -172,7 +172,7 @@ impl<'n> Parser<'n> {
         self.plan_all(&[Task::Parameters, end])
     }
 
-    /// Reads on which references a method is called.
+    /// Reads the kind of references on which a method is called.
     fn take_reference(&mut self) -> &'static str {
         if self.take(b"G") {
             " &"

@@ -13,7 +13,7 @@ use crate::tree::{Adjustment, FunctionClass, Identifier, Node, Symbol};
 use crate::words::convention_of;
 
 impl<'n> Parser<'n> {
-    /// Reads what a task of the symbols that a compiler makes says.
+    /// Reads the part that a task of the symbols that a compiler makes says.
     pub(crate) fn run_intrinsic(&mut self, task: Task) -> Result<()> {
         match task {
             Task::TypeName => self.end_type_information(b"", "`RTTI Type Descriptor Name'"),
@@ -41,8 +41,8 @@ impl<'n> Parser<'n> {
         }
     }
 
-    /// Reads a symbol by the letter after its `?_`, and what comes after that: one that a compiler
-    /// makes, or else one whose name is an operator.
+    /// Reads a symbol by the letter after its `?_`, and what comes after the letter: a symbol that
+    /// a compiler makes, or else one whose name is an operator.
     fn start_made(&mut self, code: u8, after: &'n [u8]) -> Result<()>
         ensures { code ≡ 67
             → OnOk result (HandsOn (literal_text after.entry.now) self.old self.new) }
@@ -96,7 +96,7 @@ impl<'n> Parser<'n> {
         self.plan(Task::Dynamic(text, is_member))
     }
 
-    /// Reads the scopes of an identifier, and what a task says.
+    /// Reads the scopes of an identifier, and the part that a task says.
     fn start_scopes(&mut self, identifier: Identifier, task: Task) -> Result<()> {
         self.give_identifier(identifier)?;
         self.plan_all(&[Task::Scopes(1), task])
@@ -113,7 +113,7 @@ impl<'n> Parser<'n> {
         }
     }
 
-    /// Reads the scopes of a name that is always the same, and what a task says.
+    /// Reads the scopes of a name that is always the same, and the part that a task says.
     fn start_fixed(&mut self, name: &'static str, task: Task) -> Result<()> {
         self.start_scopes(Identifier::Fixed(name), task)
     }
@@ -162,7 +162,7 @@ impl<'n> Parser<'n> {
         self.give(Node::Symbol(Symbol::Variable(None, None), Some(name)))
     }
 
-    /// Reads the qualifiers of a class's table, and which base it is for.
+    /// Reads the qualifiers of a class's table, and the base that it is for.
     fn read_table(&mut self) -> Result<()> {
         let code = self.take_byte()?;
         if code != b'6' && code != b'7' {

@@ -19,8 +19,8 @@ pub(crate) fn qualified(is_const: bool, is_volatile: bool) -> Qualifiers
     }
 }
 
-/// The qualifiers that a letter stands for, of what is no member by `A` to `D`, and of a member by
-/// `Q` to `T`.
+/// The qualifiers that a letter stands for: `A` to `D` for what is no member, `Q` to `T` for a
+/// member.
 #[tactic(auto, unfolding(crate::specs::Qualified::letter_qualifiers))]
 pub(crate) fn qualifiers_of(code: u8) -> Option<Qualifiers>
     ensures { result ≡ letter_qualifiers code }
@@ -35,7 +35,7 @@ pub(crate) fn qualifiers_of(code: u8) -> Option<Qualifiers>
 }
 
 /// The qualifiers of a pointer before its pointee: `E` for one of 64 bits, which isn't printed, `I`
-/// for `__restrict` and `F` for `__unaligned`. And what comes after them.
+/// for `__restrict` and `F` for `__unaligned`; and the rest after them.
 pub(crate) fn extended_qualifiers(rest: &[u8]) -> (Qualifiers, &[u8])
     ensures { (result.0, result.1.now) ≡ extended rest.now }
 {

@@ -1,6 +1,6 @@
 //! The text of a decorated name of Visual C++, as `llvm-undname` 19 prints it.
 //!
-//! How a text is made may change; the text may not, unless `llvm-undname` 19 prints it otherwise.
+//! The making of a text may change; the text may not, unless `llvm-undname` 19 prints it otherwise.
 //! The crate stands on no other one, and is to stay so.
 #![tactic(auto)]
 

@@ -22,15 +22,15 @@ use crate::stop::Stop;
 use crate::tree::{Node, Symbol};
 use std::alloc::{AllocError, Global};
 
-/// How many bytes of a string a name has at most. Compilers write 32; some wrote more by mistake.
+/// The most bytes of a string that a name has. Compilers write 32; some wrote more by mistake.
 const MOST_BYTES: usize = 128;
 
-/// What stands about the characters of a string literal.
+/// The texts around the characters of a string literal.
 #[derive(Clone, Copy)]
 pub(crate) struct Quotes {
-    /// Before them.
+    /// The text before the characters.
     pub(crate) before: &'static str,
-    /// After them.
+    /// The text after the characters.
     pub(crate) after: &'static str,
 }
 
@@ -46,7 +46,7 @@ fn value_of(bytes: &[u8]) -> u32
     ])
 }
 
-/// What stands before a string of characters of that many bytes.
+/// The text before a string of characters of that many bytes.
 fn prefix_of(size: usize) -> &'static str
     ensures { result.now ≡ prefix size }
 {
@@ -57,14 +57,14 @@ fn prefix_of(size: usize) -> &'static str
     }
 }
 
-/// What stands after a string.
+/// The text after a string.
 fn suffix_of(is_cut: bool) -> &'static str
     ensures { result.now ≡ suffix is_cut }
 {
     if is_cut { "\"..." } else { "\"" }
 }
 
-/// Where the first `@` stands.
+/// The index of the first `@`.
 fn first_at(text: &[u8]) -> Option<usize>
     ensures is { result ≡ position (λ b. b == 64) text.now }
     ensures within { IfSome result (λ place. place < length text.now) }
@@ -72,7 +72,7 @@ fn first_at(text: &[u8]) -> Option<usize>
     text.iter().position(|byte| *byte == b'@')
 }
 
-/// What comes after the first `@`.
+/// The rest after the first `@`.
 #[tactic(auto, unfolding(crate::specs::Literals::after_at))]
 fn split_at_sign(text: &[u8]) -> Option<&[u8]>
     ensures { option_map (λ t. t.now) result ≡ after_at text.now }
@@ -83,7 +83,7 @@ fn split_at_sign(text: &[u8]) -> Option<&[u8]>
     }
 }
 
-/// What comes after the `@` that a text begins with.
+/// The rest after the `@` that a text begins with.
 #[tactic(auto, unfolding(crate::specs::Literals::ended))]
 fn split_end(text: &[u8]) -> Option<&[u8]>
     ensures { option_map (λ t. t.now) result ≡ ended text.now }
@@ -94,7 +94,7 @@ fn split_end(text: &[u8]) -> Option<&[u8]>
     }
 }
 
-/// A literal's size in bytes, and what comes after the checksum that follows it.
+/// A literal's size in bytes, and the rest after the checksum that follows it.
 #[tactic(auto, unfolding(crate::specs::Literals::sized_of))]
 fn split_size(text: &[u8]) -> Option<(u64, &[u8])>
     ensures { option_map (λ r. (r.0, r.1.now)) result ≡ sized_of text.now }
@@ -198,7 +198,7 @@ fn push_characters(text: &mut Vec<u8>, characters: &[u32]) -> Result<(), AllocEr
     Ok(())
 }
 
-/// Appends the characters of a string by its first bytes, at most 128, and its size in bytes.
+/// Appends the characters of a string, from its first bytes, at most 128, and its size in bytes.
 #[tactic(auto, using(crate::proofs::Strings::character_size_some), unfolding(crate::specs::Literals::narrow_text))]
 fn narrow(text: &mut Vec<u8>, size: u64, bytes: &[u8]) -> Result<Quotes, AllocError>
     requires { length bytes.now ≤ 128 }
@@ -232,7 +232,7 @@ fn drop_end(characters: &mut Vec<u32>, size: u64)
     }
 }
 
-/// Appends the characters of a string of `wchar_t` by the first, and its size in bytes.
+/// Appends the characters of a string of `wchar_t`, from the first ones, and its size in bytes.
 #[tactic(auto, unfolding(crate::specs::Literals::wide_text))]
 fn wide(text: &mut Vec<u8>, size: u64, characters: &mut Vec<u32>) -> Result<Quotes, AllocError>
     ensures { AppendsQuoted (wide_text size characters.old.items) text.old text.new result }
@@ -245,7 +245,7 @@ fn wide(text: &mut Vec<u8>, size: u64, characters: &mut Vec<u32>) -> Result<Quot
     })
 }
 
-/// Appends a string whose characters may have 1, 2 or 4 bytes, and gives what comes after.
+/// Appends a string whose characters may have 1, 2 or 4 bytes, and returns the rest after it.
 #[tactic(auto, unfolding(crate::specs::Literals::narrow_of))]
 fn split_narrow<'t>(
     alloc: Global,
@@ -261,7 +261,7 @@ fn split_narrow<'t>(
     Ok(Some((narrow(output, size, bytes.as_slice())?, after)))
 }
 
-/// Appends a string of `wchar_t`, and gives what comes after.
+/// Appends a string of `wchar_t`, and returns the rest after it.
 #[tactic(auto, unfolding(crate::specs::Literals::wide_of))]
 fn split_wide<'t>(
     alloc: Global,
@@ -277,7 +277,7 @@ fn split_wide<'t>(
     Ok(Some((wide(output, size, &mut characters)?, after)))
 }
 
-/// Appends a string of a kind and a size in bytes, and gives what comes after.
+/// Appends a string of a kind and a size in bytes, and returns the rest after it.
 fn split_string<'t>(
     alloc: Global,
     output: &mut Vec<u8>,
@@ -296,11 +296,11 @@ fn split_string<'t>(
     Ok(None)
 }
 
-/// Appends the characters of the string literal that stands after `??_C`, and gives what comes
+/// Appends the characters of the string literal that stands after `??_C`, and returns the rest
 /// after it. None if there is none.
 ///
 /// # Errors
-/// Memory ran out.
+/// `AllocError` when memory runs out.
 #[tactic(auto, unfolding(crate::specs::Literals::literal_of))]
 fn split_literal<'t>(
     alloc: Global,

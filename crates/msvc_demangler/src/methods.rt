@@ -1,24 +1,24 @@
-//! What the letters of functions in classes say of them.
+//! The letters of functions in classes.
 
 ghost use Rattle.std.specs.Prelude.{◌≡◌};
 ghost use Rattle.msvc_demangler.specs.Methods.{access, method_class};
 
 use crate::words::Access;
 
-/// What a code says of a function in a class.
+/// The kind of a function in a class, from its code.
 #[derive(Clone, Copy)]
 pub(crate) struct MethodClass {
-    /// Who may call it.
+    /// The access to the function.
     pub(crate) access: Access,
-    /// Whether it is static.
+    /// Whether the function is static.
     pub(crate) is_static: bool,
-    /// Whether it is virtual.
+    /// Whether the function is virtual.
     pub(crate) is_virtual: bool,
-    /// Whether it is a thunk that adjusts `this` by an offset.
+    /// Whether the function is a thunk that adjusts `this` by an offset.
     pub(crate) is_adjusted: bool,
 }
 
-/// Who may call the methods of a group of eight letters.
+/// The access to the methods of a group of eight letters.
 fn access_of(group: u8) -> Access
     ensures { result ≡ access group }
 {
@@ -29,8 +29,9 @@ fn access_of(group: u8) -> Access
     }
 }
 
-/// What a letter says of a method: for each access eight in pairs, of a plain method, a static one,
-/// a virtual one, and a thunk that adjusts `this`, which isn't virtual where it is private.
+/// The kind of a method, from its letter: for each access eight in pairs, of a plain method, a
+/// static one, a virtual one, and a thunk that adjusts `this`, which isn't virtual where it is
+/// private.
 #[tactic(auto, unfolding(crate::specs::Methods::method_class))]
 pub(crate) fn method_of(code: u8) -> Option<MethodClass>
     ensures { result ≡ method_class code }

@@ -31,7 +31,7 @@ fn operator_or_structor(code: u8) -> Option<Identifier> {
 }
 
 impl<'n> Parser<'n> {
-    /// Reads what a task of names says.
+    /// Reads the part that a task of names says.
     pub(crate) fn run_name(&mut self, task: Task) -> Result<()> {
         match task {
             Task::Identifier(place) => self.start_identifier(place),
@@ -51,7 +51,8 @@ impl<'n> Parser<'n> {
         }
     }
 
-    /// Reads an identifier: a digit for one that is remembered, or what its first bytes say.
+    /// Reads an identifier: a digit for one that is remembered, or the kind that its first bytes
+    /// say.
     fn start_identifier(&mut self, place: Place) -> Result<()>
         ensures { IsTrue (is_digit (next_byte self.old))
             → OnOk result (handed_name self.new ≡ next_name self.old) }

@@ -12,9 +12,9 @@ use crate::bytes::byte_at;
 /// An encoded number.
 #[derive(Clone, Copy)]
 pub(crate) struct Number {
-    /// How far it is from 0.
+    /// The distance of the number from 0.
     pub(crate) magnitude: u64,
-    /// Whether it has a minus sign.
+    /// Whether the number has a minus sign.
     pub(crate) is_negative: bool,
 }
 
@@ -39,7 +39,7 @@ pub(crate) fn nibble(byte: u8) -> Option<u8>
     }
 }
 
-/// How many bytes of a text are hexadecimal digits before any other.
+/// The number of bytes at the head of a text that are hexadecimal digits.
 fn count_nibbles(text: &[u8]) -> usize
     ensures is { result ≡ prefix_len is_nibble text.now }
     ensures within { result ≤ length text.now }

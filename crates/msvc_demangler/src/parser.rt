@@ -1,4 +1,4 @@
-//! The reading of a name: what is still to be read, what has been, and what may be referred to.
+//! The reading of a name: the parts still to be read, those that were, and what may be referred to.
 
 ghost use Rattle.std.specs.Prelude.{◌≡◌, ◌+◌, ◌*◌, ◌≤◌, [], IfOk, OnOk, drop, length};
 ghost use Rattle.std.specs.List.{prefix_len};
@@ -18,12 +18,11 @@ use crate::tasks::{Place, Task};
 use crate::tree::{Identifier, NO_NODE, Node, Span, Tree};
 use std::alloc::{AllocError, Global};
 
-/// How many tasks there are at most for each byte of a name, and for its end. A byte that begins a
-/// type in a list has most: the list, the type, its qualifiers, the tag, its name, an identifier,
-/// and to remember it.
+/// The most tasks for each byte of a name, and for its end. A byte that begins a type in a list has
+/// most: the list, the type, its qualifiers, the tag, its name, an identifier, and to remember it.
 const TASKS_PER_BYTE: usize = 32;
 
-/// How many bytes stand before the first `@`.
+/// The number of bytes before the first `@`.
 fn count_plain(text: &[u8]) -> usize
     ensures is { result ≡ prefix_len is_plain text.now }
     ensures within { result ≤ length text.now }
@@ -36,27 +35,27 @@ fn count_plain(text: &[u8]) -> usize
 pub(crate) struct Parser<'n> {
     /// The allocator.
     pub(crate) alloc: Global,
-    /// How many bytes the name has.
+    /// The number of the name's bytes.
     length: usize,
-    /// What is left of it.
+    /// The rest of the name, which is still to be read.
     pub(crate) rest: &'n [u8],
-    /// What has been read.
+    /// The tree of the parts that have been read.
     pub(crate) tree: Tree,
-    /// What is to be read, the next at the end.
+    /// The tasks that are to be done, the next at the end.
     tasks: Vec<Task>,
-    /// What the task at hand puts before those, the next at the start.
+    /// The tasks that the task at hand puts before those, the next at the start.
     planned: Vec<Task>,
     /// The nodes that were read for tasks to come.
     values: Vec<usize>,
     /// The names that were remembered, of the enclosing templates too.
     pub(crate) names: Vec<Span>,
-    /// Where those begin that may be referred to.
+    /// The index of the first name that may be referred to.
     pub(crate) first_name: usize,
     /// The parameters' types that were remembered, of the enclosing templates too.
     pub(crate) parameters: Vec<usize>,
-    /// Where those begin that may be referred to.
+    /// The index of the first parameter that may be referred to.
     pub(crate) first_parameter: usize,
-    /// What was printed of parts that are referred to, and how much more may be printed.
+    /// The budget of what was printed of parts that are referred to.
     pub(crate) budget: Budget,
 }
 
@@ -64,7 +63,7 @@ impl<'n> Parser<'n> {
     /// The reading of a name that has not begun.
     ///
     /// # Errors
-    /// Memory ran out.
+    /// `AllocError` when memory runs out.
     pub(crate) fn new(alloc: Global, name: &'n [u8]) -> std::result::Result<Parser<'n>, AllocError>
         ensures length { IfOk result (λ p. p.length ≡ length name.entry.now) }
         ensures rest { IfOk result (λ p. p.rest.now ≡ name.entry.now) }
@@ -86,7 +85,7 @@ impl<'n> Parser<'n> {
         })
     }
 
-    /// Reads the whole name, counts the tasks, and gives the index of its symbol.
+    /// Reads the whole name, counts the tasks, and returns the index of its symbol.
     ///
     /// # Errors
     /// The name isn't decorated; memory ran out.
@@ -109,7 +108,7 @@ impl<'n> Parser<'n> {
         Err(Stop::Undecorated)
     }
 
-    /// Puts what was planned before the other tasks.
+    /// Puts the planned tasks before the other ones.
     fn take_over(&mut self) -> Result<()>
         ensures tasks { self.old.planned.items ≡ [] → SameTasks self.old self.new }
         ensures handed { handed self.new ≡ handed self.old }
@@ -170,7 +169,7 @@ impl<'n> Parser<'n> {
         self.give(Node::Identifier(identifier, None))
     }
 
-    /// The node that was handed on last, which is what the name says.
+    /// The node that was handed on last, which is the symbol of the name.
     fn end(&mut self) -> Result<usize>
         ensures last { result_ok result ≡ last_value self.old }
         ensures tree { self.new.tree ≡ self.old.tree }
@@ -228,7 +227,7 @@ impl<'n> Parser<'n> {
         Ok(list)
     }
 
-    /// Goes past a prefix, if what is left begins with it, and says whether it does.
+    /// Goes past a prefix, if what is left begins with it, and returns whether it does.
     pub(crate) fn take(&mut self, prefix: &[u8]) -> bool {
         let rest = self.rest;
         match rest.strip_prefix(prefix) {
@@ -240,7 +239,7 @@ impl<'n> Parser<'n> {
         }
     }
 
-    /// Goes past a byte, and gives it.
+    /// Goes past a byte, and returns it.
     pub(crate) fn take_byte(&mut self) -> Result<u8> {
         let rest = self.rest;
         match rest {
@@ -310,7 +309,7 @@ impl<'n> Parser<'n> {
         qualifiers
     }
 
-    /// Goes past the first `@` that is left, and gives what stands before it.
+    /// Goes past the first `@` that is left, and returns the part before it.
     pub(crate) fn take_until_at(&mut self) -> Result<Span>
         ensures part { IfOk result (λ part. part ≡ next_part self.old) }
         ensures rest { IfOk result (λ part.
@@ -338,7 +337,7 @@ impl<'n> Parser<'n> {
             .add_texts(&[before.as_bytes(), text.as_slice(), after.as_bytes()])
     }
 
-    /// Reads what a task says.
+    /// Reads the part that a task says.
     fn run(&mut self, task: Task) -> Result<()>
         ensures { task ≡ Task.Symbol → ReadsAs is_literal literal_name self.old self.new result }
     {

@@ -11,7 +11,7 @@ use crate::stop::{Result, Stop};
 use crate::tree::{Adjustment, FunctionClass, Span, Symbol};
 use crate::words::{Access, word_if};
 
-/// What is printed of who may name a member.
+/// The word that is printed for the access to a member.
 fn access_word(access: Option<Access>, flags: DemangleFlags) -> &'static str {
     match access {
         Some(access) => word_if(!flags.no_access_specifier, access.text()),
@@ -19,7 +19,7 @@ fn access_word(access: Option<Access>, flags: DemangleFlags) -> &'static str {
     }
 }
 
-/// What is printed before the type that a function returns.
+/// The words that are printed before the type that a function returns.
 fn class_words(
     class: FunctionClass,
     adjustment: Adjustment,
@@ -88,7 +88,7 @@ impl<'t> Printer<'t> {
         self.plan_all(&[Piece::Word(before), Piece::Text(text), Piece::Word(after)])
     }
 
-    /// Plans how a thunk adjusts `this`.
+    /// Plans the adjustment of `this` by a thunk.
     fn plan_adjustment(&mut self, adjustment: Adjustment, flags: DemangleFlags) -> Result<()> {
         match adjustment {
             Adjustment::By(word, offsets) => self.plan_all(&[

@@ -1,4 +1,4 @@
-//! The printing of types: what stands before, and after, what a type is the type of.
+//! The printing of types: the text before, and after, what a type is the type of.
 
 use crate::flags::{DemangleFlags, NO_CONVENTION};
 use crate::printer::{Piece, Printer};
@@ -7,7 +7,7 @@ use crate::stop::Result;
 use crate::tree::{Parameters, Signature, Type};
 use crate::words::{Affinity, word_if};
 
-/// What stands between a pointer's pointee and its class or sign, but for `__unaligned`.
+/// The text between a pointer's pointee and its class or sign, but for `__unaligned`.
 fn opening(pointee: Type) -> [&'static str; 3] {
     match pointee {
         Type::Array(..) => ["(", "", ""],
@@ -17,7 +17,7 @@ fn opening(pointee: Type) -> [&'static str; 3] {
 }
 
 impl<'t> Printer<'t> {
-    /// Prints what stands before what a type is the type of, or plans its parts.
+    /// Prints the text before what a type is the type of, or plans its parts.
     pub(crate) fn print_before(&mut self, index: usize, flags: DemangleFlags) -> Result<()> {
         let (form, qualifiers) = self.tree.type_of(index)?;
         match form {
@@ -44,7 +44,7 @@ impl<'t> Printer<'t> {
         self.plan_words(&[qualifiers.spaced_text()])
     }
 
-    /// Plans what stands before the sign of a pointer.
+    /// Plans the text before the sign of a pointer.
     fn print_before_sign(
         &mut self,
         pointee: usize,
@@ -81,7 +81,7 @@ impl<'t> Printer<'t> {
         self.plan_all(&[Piece::Space, Piece::Word(signature.convention)])
     }
 
-    /// Prints what stands after what a type is the type of, or plans its parts.
+    /// Prints the text after what a type is the type of, or plans its parts.
     pub(crate) fn print_after(&mut self, index: usize, flags: DemangleFlags) -> Result<()> {
         let (form, qualifiers) = self.tree.type_of(index)?;
         match form {
@@ -97,7 +97,7 @@ impl<'t> Printer<'t> {
         }
     }
 
-    /// Prints what stands after a pointer, or plans its parts.
+    /// Prints the text after a pointer, or plans its parts.
     fn print_after_pointer(&mut self, pointee: usize, flags: DemangleFlags) -> Result<()> {
         let (form, _) = self.tree.type_of(pointee)?;
         match form {
@@ -109,7 +109,7 @@ impl<'t> Printer<'t> {
         }
     }
 
-    /// Plans a function's parameters, and what stands after them.
+    /// Plans a function's parameters, and the text after them.
     fn print_after_function(
         &mut self,
         signature: Signature,

@@ -16,7 +16,7 @@ use crate::stop::{Result, Stop};
 use crate::tree::{Node, Span, Tree, Type};
 use std::alloc::Global;
 
-/// What is to be printed next.
+/// A piece that is to be printed.
 #[derive(Clone, Copy)]
 pub(crate) enum Piece {
     /// These bytes.
@@ -25,11 +25,11 @@ pub(crate) enum Piece {
     Text(Span),
     /// A node.
     Whole(usize, DemangleFlags),
-    /// What stands before what a type is the type of.
+    /// The text before what a type is the type of.
     Before(usize, DemangleFlags),
-    /// What stands after it.
+    /// The text after what a type is the type of.
     After(usize, DemangleFlags),
-    /// A list of nodes, and what stands between them.
+    /// A list of nodes, and the text between them.
     List(Span, usize, &'static str, DemangleFlags),
     /// A space, after a letter, a digit or `>`.
     Space,
@@ -46,18 +46,18 @@ pub(crate) struct Printer<'t> {
     alloc: Global,
     /// The tree.
     pub(crate) tree: &'t Tree,
-    /// What is to be printed, the next at the end.
+    /// The pieces that are to be printed, the next at the end.
     pieces: Vec<Piece>,
-    /// What the piece at hand puts before those, the next at the start.
+    /// The pieces that the piece at hand puts before those, the next at the start.
     planned: Vec<Piece>,
-    /// What has been printed.
+    /// The text that has been printed.
     text: Vec<u8>,
 }
 
 /// Prints a node in full, and counts what is printed.
 ///
 /// # Errors
-/// It has no text, or more than may be printed; memory ran out.
+/// The node has no text, or more than may be printed; memory ran out.
 pub(crate) fn print_part(
     alloc: Global,
     tree: &Tree,
@@ -70,7 +70,7 @@ pub(crate) fn print_part(
 /// Prints a piece, and counts what is printed.
 ///
 /// # Errors
-/// It has no text, or more than may be printed; memory ran out.
+/// The piece has no text, or more than may be printed; memory ran out.
 #[tactic(auto, using(crate::proofs::Printing::one_piece))]
 pub(crate) fn print_tree(
     alloc: Global,
@@ -122,7 +122,7 @@ impl<'t> Printer<'t> {
         Err(Stop::Undecorated)
     }
 
-    /// Puts what was planned before the other pieces.
+    /// Puts the planned pieces before the other ones.
     #[tactic(auto, using(crate::proofs::Printing::moving))]
     fn take_over(&mut self) -> Result<()>
         ensures text { self.new.text.items ≡ self.old.text.items }

@@ -32,7 +32,8 @@ impl Qualifiers {
         }
     }
 
-    /// What is printed of them before other words; `__unaligned` isn't.
+    /// The words that are printed of the qualifiers before other words; `__unaligned` isn't
+    /// printed.
     pub(crate) fn text(self) -> &'static str {
         match (self.is_const, self.is_volatile, self.is_restrict) {
             (false, false, false) => "",

@@ -11,7 +11,7 @@ use crate::parser::Parser;
 use crate::stop::{Result, Stop};
 use crate::tree::{Identifier, Span, Tree};
 
-/// How many names and how many parameters a name may refer to: a digit says which.
+/// The number of names, and of parameters, to which a name may refer: a digit says which.
 const REMEMBERED: usize = 10;
 
 /// Whether a name is among those that are remembered.
@@ -28,14 +28,14 @@ fn is_remembered(tree: &Tree, known: &[Span], name: &[u8]) -> Result<bool>
     Ok(false)
 }
 
-/// The place of what a digit stands for.
+/// The place in a list that a digit stands for.
 fn place_of(digit: u8) -> usize
     ensures { result ≡ digit - 48 }
 {
     usize::from(digit.saturating_sub(b'0'))
 }
 
-/// What stands in a list from a place on.
+/// The values of a list from a place on.
 fn from_place<T>(items: &[T], first: usize) -> &[T]
     ensures { result.now ≡ drop first items.now }
 {
@@ -54,8 +54,8 @@ impl<'n> Parser<'n> {
         self.first_parameter = self.parameters.len();
     }
 
-    /// Ends a template: its names and parameters are forgotten, and those from these places on may
-    /// be referred to again.
+    /// Ends a template: its names and parameters are forgotten, and the names and parameters from
+    /// these places on may be referred to again.
     pub(crate) fn leave_template(&mut self, first_name: usize, first_parameter: usize)
         ensures names { self.new.names.items ≡ take self.old.first_name self.old.names.items }
         ensures first_name { self.new.first_name ≡ first_name }

@@ -1,11 +1,11 @@
-//! What ends the reading of a name.
+//! The reasons that the reading of a name ends.
 
 use std::alloc::{AllocError, AllocFailed};
 
-/// What a step of reading or printing a name returns, or what ends it.
+/// The result of a step of reading or printing a name, or the reason that it ends.
 pub(crate) type Result<T> = std::result::Result<T, Stop>;
 
-/// What ends the reading of a name.
+/// The reason that the reading of a name ends.
 #[derive(Clone, Copy)]
 pub(crate) enum Stop {
     /// The name isn't decorated, or its text passes a limit.

@@ -1,4 +1,4 @@
-//! Symbols: variables, functions, and those that stand for parts of others.
+//! Symbols: variables, functions, and symbols that stand for parts of others.
 
 ghost use Rattle.std.specs.Prelude.{◌≡◌, IsTrue, OnOk};
 ghost use Rattle.msvc_demangler.specs.Literals.{ReadsAs, is_literal, literal_name};
@@ -10,7 +10,7 @@ use crate::tree::{Identifier, Node, Span, Symbol, Type};
 use crate::words::{Access, storage_of};
 
 impl<'n> Parser<'n> {
-    /// Reads what a task of symbols says.
+    /// Reads the part that a task of symbols says.
     pub(crate) fn run_symbol(&mut self, task: Task) -> Result<()>
         ensures { task ≡ Task.Symbol → ReadsAs is_literal literal_name self.old self.new result }
     {
@@ -141,7 +141,7 @@ impl<'n> Parser<'n> {
         }
     }
 
-    /// Reads the function that an initializer or destructor of a variable is.
+    /// Reads the function that is an initializer or destructor of a variable.
     fn start_initializer(&mut self, identifier: Identifier) -> Result<()> {
         let name = self.tree.add_name(identifier)?;
         self.push(name)?;

@@ -1,29 +1,29 @@
-//! What is still to be read of a name.
+//! The tasks of reading a name.
 
 use crate::numbers::Number;
 use crate::qualifiers::Qualifiers;
 use crate::tree::{Adjustment, FunctionClass};
 use crate::words::{Access, Affinity};
 
-/// Where an identifier stands.
+/// The place of an identifier.
 #[derive(Clone, Copy)]
 pub(crate) enum Place {
-    /// It names a symbol.
+    /// The identifier names a symbol.
     Symbol,
-    /// It names a type.
+    /// The identifier names a type.
     Type,
-    /// It stands before `::`.
+    /// The identifier stands before `::`.
     Scope,
 }
 
-/// Where the qualifiers of a type stand.
+/// The place of a type's qualifiers.
 #[derive(Clone, Copy)]
 pub(crate) enum Mode {
-    /// Nowhere, or after it.
+    /// Nowhere, or after the type.
     Bare,
-    /// Before it.
+    /// Before the type.
     Qualified,
-    /// Before it, after `?`, if it has any.
+    /// Before the type, after `?`, if it has any.
     Returned,
 }
 
@@ -32,16 +32,16 @@ pub(crate) enum Mode {
 pub(crate) struct Front {
     /// The qualifiers of `this`.
     pub(crate) qualifiers: Qualifiers,
-    /// `&` or `&&` where it is called on references of one kind.
+    /// `&` or `&&` where the function is called on references of one kind.
     pub(crate) reference: &'static str,
     /// The calling convention.
     pub(crate) convention: &'static str,
-    /// Whether it returns a type.
+    /// Whether the function returns a type.
     pub(crate) returns: bool,
 }
 
-/// What is to be read next. What comes of it is a node, whose index is pushed on the values; tasks
-/// that say so take values from there.
+/// A task of reading. Its result is a node, whose index is pushed on the values; tasks that say so
+/// take values from there.
 #[derive(Clone, Copy)]
 pub(crate) enum Task {
     /// A symbol.
@@ -54,17 +54,18 @@ pub(crate) enum Task {
     Untyped,
     /// The end of a base class's descriptor. Takes the name.
     BaseClass,
-    /// What follows the name of a class's table. Takes the name.
+    /// The rest of a class's table after its name. Takes the name.
     Table,
     /// A table for a base. Takes the base's name, and the table's.
     TableFor(Qualifiers),
-    /// What follows the name of a static variable's guard. Takes the name.
+    /// The rest of a static variable's guard after its name. Takes the name.
     Guard,
-    /// What follows the name of a virtual call's thunk. Takes the name.
+    /// The rest of a virtual call's thunk after its name. Takes the name.
     VirtualCall,
     /// Gives a constructor or destructor its class. Leaves the name.
     Structor,
-    /// What follows the name of a symbol: a variable or a function. Gives a symbol without a name.
+    /// The rest of a symbol after its name: a variable or a function. Gives a symbol without a
+    /// name.
     Encoding,
     /// A variable's qualifiers. Takes the type.
     Variable(Option<Access>),
@@ -82,11 +83,11 @@ pub(crate) enum Task {
     Forget,
     /// An identifier.
     Identifier(Place),
-    /// Further identifiers of a qualified name, of which so many are read. Takes those.
+    /// Further identifiers of a qualified name, of which so many are read. Takes the identifiers.
     Scopes(usize),
     /// A local scope of this number. Takes the symbol that it is local to.
     LocalScope(Number),
-    /// Further template arguments, of which so many are read. Takes those, and leaves the
+    /// Further template arguments, of which so many are read. Takes the arguments, and leaves the
     /// identifier.
     Arguments(usize),
     /// An argument for an `auto` parameter. Takes its type.
@@ -100,7 +101,7 @@ pub(crate) enum Task {
     TemplateEnd(usize, usize, bool),
     /// A type.
     Type(Mode),
-    /// Adds qualifiers to a type. Leaves it.
+    /// Adds qualifiers to a type. Leaves the type.
     Qualify(Qualifiers),
     /// A class's type. Takes its name.
     Tagged(&'static str),
@@ -118,9 +119,9 @@ pub(crate) enum Task {
     Signature(bool),
     /// The parameters.
     Parameters,
-    /// Further parameters, of which so many are read. Takes those.
+    /// Further parameters, of which so many are read. Takes the parameters.
     MoreParameters(usize),
-    /// Remembers a parameter before which so many bytes were left. Leaves it.
+    /// Remembers a parameter before which so many bytes were left. Leaves the parameter.
     Remember(usize),
     /// The end of a function's type. Takes its parameters, and the type that it returns.
     SignatureEnd(Front),

@@ -20,9 +20,9 @@ pub(crate) const NO_NODES: Span = Span { start: 0, count: 0 };
 /// A run of bytes of the texts, or of indices of the lists.
 #[derive(Clone, Copy)]
 pub(crate) struct Span {
-    /// Where it begins.
+    /// The place at which the run begins.
     pub(crate) start: usize,
-    /// How many there are.
+    /// The number of bytes or indices.
     pub(crate) count: usize,
 }
 
@@ -31,7 +31,7 @@ pub(crate) struct Span {
 pub(crate) enum Identifier {
     /// A name that the texts have.
     Named(Span),
-    /// A name that is always the same, as that of an operator.
+    /// A name that is always the same, such as an operator's.
     Fixed(&'static str),
     /// A constructor or a destructor of a class, given by its identifier.
     Structor(bool, Option<usize>),
@@ -65,13 +65,13 @@ pub(crate) enum Parameters {
 pub(crate) struct Signature {
     /// The calling convention.
     pub(crate) convention: &'static str,
-    /// The type that it returns; None for a constructor.
+    /// The type that the function returns; None for a constructor.
     pub(crate) returned: Option<usize>,
     /// The parameters.
     pub(crate) parameters: Parameters,
-    /// `&` or `&&` where it is called on references of one kind.
+    /// `&` or `&&` where the function is called on references of one kind.
     pub(crate) reference: &'static str,
-    /// Whether it throws nothing.
+    /// Whether the function throws nothing.
     pub(crate) is_noexcept: bool,
 }
 
@@ -92,44 +92,44 @@ pub(crate) enum Type {
     Custom(usize),
 }
 
-/// How a thunk adjusts `this`.
+/// The adjustment of `this` by a thunk.
 #[derive(Clone, Copy)]
 pub(crate) enum Adjustment {
-    /// It is no thunk.
+    /// The function is no thunk.
     NotThunk,
-    /// A thunk that says nothing of it.
+    /// A thunk that says nothing of an adjustment.
     Unsaid,
-    /// By offsets, after these bytes.
+    /// An adjustment by offsets, after these bytes.
     By(&'static str, Span),
 }
 
-/// What kind of function a symbol is.
+/// The kind of function that a symbol is.
 #[derive(Clone, Copy)]
 pub(crate) struct FunctionClass {
-    /// Who may call it; None outside classes.
+    /// The access to the function; None outside classes.
     pub(crate) access: Option<Access>,
-    /// Whether it stands outside of classes.
+    /// Whether the function stands outside of classes.
     pub(crate) is_global: bool,
-    /// Whether it is a static method.
+    /// Whether the function is a static method.
     pub(crate) is_static: bool,
-    /// Whether it is virtual.
+    /// Whether the function is virtual.
     pub(crate) is_virtual: bool,
-    /// Whether it is `extern "C"`.
+    /// Whether the function is `extern "C"`.
     pub(crate) is_extern_c: bool,
 }
 
-/// What a symbol is.
+/// The kind of a symbol, with its parts.
 #[derive(Clone, Copy)]
 pub(crate) enum Symbol {
     /// A name alone.
     Plain,
     /// A function: its type, its kind and its adjustment of `this`.
     Function(usize, FunctionClass, Adjustment),
-    /// A variable: its type, and who may see it if it is a static member.
+    /// A variable: its type, and the access to it if it is a static member.
     Variable(Option<usize>, Option<Access>),
     /// A table of a class: its qualifiers, and the name of the base that it is for.
     Table(Qualifiers, Option<usize>),
-    /// A string literal: what stands before its text, its text, and what stands after.
+    /// A string literal: the text before its text, its text, and the text after it.
     Text(&'static str, Span, &'static str),
 }
 
@@ -148,7 +148,7 @@ pub(crate) enum Node {
     Number(Number),
     /// The size of a dimension of an array, which isn't written if it is 0.
     Dimension(u64),
-    /// A template argument that names a symbol: what stands before it, the symbol, and offsets.
+    /// A template argument that names a symbol: the text before it, the symbol, and offsets.
     Reference(&'static str, Option<usize>, Span),
     /// A symbol, and its name.
     Symbol(Symbol, Option<usize>),
@@ -161,7 +161,7 @@ pub(crate) struct Tree {
     nodes: Vec<Node>,
     /// Lists of nodes, one after another.
     lists: Vec<usize>,
-    /// The name's bytes, and after them those of the texts that were made of its parts.
+    /// The name's bytes, and after them the bytes of the texts that were made of its parts.
     texts: Vec<u8>,
 }
 
@@ -169,7 +169,7 @@ impl Tree {
     /// A tree without nodes, over a name.
     ///
     /// # Errors
-    /// Memory ran out.
+    /// `AllocError` when memory runs out.
     pub(crate) fn new(alloc: Global, name: &[u8]) -> std::result::Result<Tree, AllocError> {
         let mut texts = Vec::new(alloc);
         texts.extend_from_slice(name)?;
@@ -180,7 +180,7 @@ impl Tree {
         })
     }
 
-    /// Adds a node, and gives its index.
+    /// Adds a node, and returns its index.
     ///
     /// # Errors
     /// Memory ran out.
@@ -306,7 +306,7 @@ impl Tree {
     /// its class.
     ///
     /// # Errors
-    /// There is no name, or no identifier before.
+    /// There is no name, or no identifier before its end.
     pub(crate) fn settle_structor(&mut self, name: usize) -> Result<()> {
         let last = self.identifier_before(name, 0);
         let (identifier, arguments) = self.identifier_of(last)?;
@@ -325,7 +325,8 @@ impl Tree {
     /// Gives a symbol its name, and an operator that converts the type that it converts to.
     ///
     /// # Errors
-    /// There is no symbol, or no name; what converts is no function that returns a type.
+    /// There is no symbol, or no name; the operator that converts is no function that returns a
+    /// type.
     pub(crate) fn declare(&mut self, index: usize, name: usize) -> Result<()> {
         let (symbol, _) = self.symbol_of(index)?;
         self.set(index, Node::Symbol(symbol, Some(name)));

@@ -12,7 +12,7 @@ use crate::tasks::{Mode, Place, Task};
 use crate::tree::{Node, Type};
 use crate::words::{Affinity, basic_type_of, keyword_of, later_basic_type_of, pointer_of};
 
-/// Whether a pointer leads to a member, by what comes after its letter. None if neither.
+/// Whether a pointer leads to a member, judged by what comes after its letter. None if neither.
 fn leads_to_member(rest: &[u8]) -> Option<bool> {
     match rest {
         [b'6', ..] => Some(false),
@@ -51,7 +51,7 @@ fn split_basic_type(rest: &[u8]) -> Option<(&'static str, &[u8])>
 }
 
 impl<'n> Parser<'n> {
-    /// Reads what a task of types says.
+    /// Reads the part that a task of types says.
     pub(crate) fn run_type(&mut self, task: Task) -> Result<()> {
         match task {
             Task::Type(mode) => self.start_type(mode),
@@ -174,7 +174,7 @@ impl<'n> Parser<'n> {
         }
     }
 
-    /// Reads the pointee of what leads to no member.
+    /// Reads the pointee of a pointer or reference that leads to no member.
     fn start_plain_pointer(&mut self, affinity: Affinity, qualifiers: Qualifiers) -> Result<()> {
         let (pointee, extended) = if self.take(b"6") {
             (Task::Signature(false), UNQUALIFIED)

@@ -8,19 +8,19 @@ ghost use Rattle.msvc_demangler.specs.Words.{basic_type, convention, keyword, la
 use crate::letters::qualified;
 use crate::qualifiers::Qualifiers;
 
-/// Who may name a member.
+/// The access to a member: who may name it.
 #[derive(Clone, Copy)]
 pub(crate) enum Access {
     /// The class alone.
     Private,
-    /// The class and those that derive from it.
+    /// The class and its derived classes.
     Protected,
-    /// All.
+    /// Everyone.
     Public,
 }
 
 impl Access {
-    /// What is printed before a member.
+    /// The text that is printed before a member.
     pub(crate) fn text(self) -> &'static str
         ensures { result.now ≡ access_text self }
     {
@@ -32,7 +32,7 @@ impl Access {
     }
 }
 
-/// How a type leads to another.
+/// The way in which a type leads to another.
 #[derive(Clone, Copy)]
 pub(crate) enum Affinity {
     /// A pointer.
@@ -44,7 +44,7 @@ pub(crate) enum Affinity {
 }
 
 impl Affinity {
-    /// The sign of it.
+    /// The sign of the pointer or reference.
     pub(crate) fn text(self) -> &'static str
         ensures { result.now ≡ affinity_text self }
     {

@@ -31,12 +31,12 @@ use Rattle.pdb_loading.specs.Held.{given, names_in}
 use Rattle.pdb_loading.specs.ModuleInfos.{KeptInfo, answered_at}
 use Rattle.pdb_loading.specs.Loading.{LoadingFault, Loaded, loaded_with}
 
--- what a file gives of the module with that index, whatever its entry; a fault says that it was
+-- the answer of a file for the module with that index, whatever its entry; a fault says that it was
 -- stored
 abbrev pub given_in : Streams → Provided
 given_in s number entry = given s number
 
--- what names of types and ids are made of, with these flags
+-- the formatter of which names of types and ids are made, with these flags
 abbrev pub formatting_in : ℕ → Streams → Loaded → Formatting Streams
 formatting_in flags s l = record {
   reading = record {
@@ -53,14 +53,14 @@ formatting_in flags s l = record {
   flags = flags;
 }
 
--- what an answer in the module with that index depends on
+-- all that an answer in the module with that index depends on
 unfoldable pub scope_named : ℕ → Streams → Loaded → ℕ → Scope
 scope_named flags s l = scope_of given_in s (formatting_in flags s l)
 
 abbrev pub scope : Streams → Loaded → ℕ → Scope
 scope s l = scope_named 23 s l
 
--- the answer by what was loaded: nothing, or a function with its frames; a fault is that of the
+-- the answer from what was loaded: nothing, or a function with its frames; a fault is that of the
 -- first part of the module's data that can't be read
 abbrev pub answer_by : ℕ → Streams → Result Loaded LoadingFault → ℕ
     → Result (Option FunctionFrames) Fault
@@ -78,7 +78,7 @@ answer_with order s = answer_named 23 order s
 abbrev pub answer : Streams → ℕ → Result (Option FunctionFrames) Fault
 answer s = answer_with InOrder s
 
--- the function by what was loaded
+-- the function from what was loaded
 abbrev pub function_by : ℕ → Streams → Result Loaded LoadingFault → ℕ → Option Function
 function_by flags s (Err e) a = None
 function_by flags s (Ok l) a = function l.parts (scope_named flags s l) a
@@ -93,7 +93,7 @@ function_with order s = function_named 23 order s
 abbrev pub function_at : Streams → ℕ → Option Function
 function_at s = function_with InOrder s
 
--- the functions at places, and where they may change, by what was loaded
+-- the functions at places, and where they may change, from what was loaded
 abbrev pub database_by : ℕ → Streams → Result Loaded LoadingFault → Database Function
 database_by flags s (Err e) = record { answer = λ place. None; is_bound = λ place. false }
 database_by flags s (Ok l) = database_of l.parts (scope_named flags s l)
@@ -108,7 +108,7 @@ database_with order s = database_named 23 order s
 abbrev pub database : Streams → Database Function
 database s = database_with InOrder s
 
--- the frames at places, and where they may change, by what was loaded
+-- the frames at places, and where they may change, from what was loaded
 abbrev pub frames_by : ℕ → Streams → Result Loaded LoadingFault → Database (Option FunctionFrames)
 frames_by flags s (Err e) = record { answer = λ place. None; is_bound = λ place. false }
 frames_by flags s (Ok l) = frames_of_places l.parts (scope_named flags s l)
@@ -118,7 +118,7 @@ frames_by flags s (Ok l) = frames_of_places l.parts (scope_named flags s l)
 unfoldable pub frames_named : ℕ → ContributionOrder → Streams → Database (Option FunctionFrames)
 frames_named flags order s = frames_by flags s (loaded_with order (shared s))
 
--- the files at places, and where they may change, by what was loaded
+-- the files at places, and where they may change, from what was loaded
 abbrev pub files_by : ℕ → Streams → Result Loaded LoadingFault → Database FileAnswer
 files_by flags s (Err e) = record { answer = λ place. None; is_bound = λ place. false }
 files_by flags s (Ok l) = files_of l.parts (scope_named flags s l)
@@ -133,14 +133,14 @@ files_with order s = files_named 23 order s
 abbrev pub files : Streams → Database FileAnswer
 files s = files_with InOrder s
 
--- what a list of functions goes over: the parts that each question goes over, what an answer in
--- each module depends on, and the modules' entries in order
+-- all that a list of functions goes over: the parts that each question goes over, the scope of each
+-- module, and the modules' entries in order
 pub record Listing : Type 0 where
   pub parts : Parts
   pub scope : ℕ → Scope
   pub entries : List Module
 
--- what the list of functions goes over, by what was loaded
+-- all that the list of functions goes over, from what was loaded
 abbrev pub listing_by : ℕ → Streams → Result Loaded LoadingFault → Option Listing
 listing_by flags s (Err e) = None
 listing_by flags s (Ok l) = Some (record {
@@ -149,7 +149,7 @@ listing_by flags s (Ok l) = Some (record {
   entries = (modules_of l.debug_information.modules).items;
 })
 
--- what the list of the file's functions goes over; none where the file isn't loaded
+-- all that the list of the file's functions goes over; none where the file isn't loaded
 unfoldable pub listing_named : ℕ → ContributionOrder → Streams → Option Listing
 listing_named flags order s = listing_by flags s (loaded_with order (shared s))
 
@@ -159,7 +159,7 @@ listing_with order s = listing_named 23 order s
 abbrev pub listing : Streams → Option Listing
 listing s = listing_with InOrder s
 
--- the address map, by what was loaded
+-- the address map, from what was loaded
 abbrev pub map_by : Result Loaded LoadingFault → Option Map
 map_by (Err e) = None
 map_by (Ok l) = Some l.tables.map
@@ -173,11 +173,11 @@ address_map s = map_with InOrder s
 
 -- ---- by a context
 
--- what stored modules give of the module with that index, whatever its entry
+-- the answer of stored modules for the module with that index, whatever its entry
 abbrev pub answered_in : List KeptInfo → Provided
 answered_in infos number entry = answered_at infos number
 
--- what the list of a context's functions goes over
+-- all that the list of a context's functions goes over
 abbrev pub listing_of : {P : Type 0} → (P → Provided) → Context P → Listing
 listing_of provided c = record {
   parts = c.parts;

@@ -1,4 +1,4 @@
--- A context as the definitions see it, and what it is made of.
+-- A context as the definitions see it, and the parts of which it is made.
 use Rattle.std.specs.Prelude.{ℕ, ◌+◌, ◌-◌, ◌^◌, Bool, List, Option, min, Result, Ok, Err}
 use Rattle.std.specs.Prelude.{if◌then◌else◌}
 use Rattle.pdb_container.specs.Fault.{◌>>=◌}
@@ -15,8 +15,8 @@ use Rattle.pdb_frames.specs.Scopes.{Scope, scope_of}
 use Rattle.pdb_answers.specs.FailingParts.{Failures, no_failures}
 use Rattle.pdb_symbols_modules.specs.Dbi.{Dbi}
 
--- what gives modules, what every question goes over, what names are made of, how many places were
--- looked up, and which parts of modules stand as failed
+-- the provider of modules, the parts that every question goes over, the formatter of which names
+-- are made, the number of places that were looked up, and the parts of modules that stand as failed
 pub record Context (P : Type 0) : Type 0 where
   pub provider : P
   pub parts : Parts
@@ -24,7 +24,7 @@ pub record Context (P : Type 0) : Type 0 where
   pub lookups : ℕ
   pub failed : Failures
 
--- all of a context but its count: what its answers depend on
+-- all of a context but its count: its answers depend on this
 abbrev pub uncounted : {P : Type 0} → Context P → Context P
 uncounted c = record {
   provider = c.provider;
@@ -34,7 +34,7 @@ uncounted c = record {
   failed = c.failed;
 }
 
--- what no question changes: all of a context but its count and what stands as failed
+-- all of a context that no question changes: all but its count and what stands as failed
 abbrev pub lasting : {P : Type 0} → Context P → Context P
 lasting c = record {
   provider = c.provider;
@@ -50,7 +50,7 @@ abbrev pub lookups_after : {A : Type 0} → Bool → Result A Error → ℕ → 
 lookups_after placed (Err errors.OutOfMemory) lookups = lookups
 lookups_after placed r lookups = if placed then min (lookups + 1) (2 ^ 64 - 1) else lookups
 
--- what an answer of a context in the module with that index depends on
+-- all that an answer of a context in the module with that index depends on
 abbrev pub scope_in : {P : Type 0} → (P → Provided) → Context P → ℕ → Scope
 scope_in provided c m = scope_of provided c.provider c.formatting m
 
@@ -65,7 +65,7 @@ context_over provider formatting parts = parts >>= λ p. Ok record {
   failed = no_failures;
 }
 
--- a context over what a database's tables give
+-- a context over a database's tables
 abbrev pub context_from : {P : Type 0} → P → Formatting P → List ImageSectionHeader → Map → List ℕ
     → Dbi → Option (List ℕ) → Result (Context P) Fault
 context_from provider formatting sections map symbol_records header names =

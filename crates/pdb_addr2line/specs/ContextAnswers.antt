@@ -1,4 +1,4 @@
--- What a context answers, and what a question leaves of it.
+-- The answers of a context, and what a question leaves of it.
 use Rattle.std.specs.Prelude.{◌≡◌, ℕ, List, Option, Some, Result, IfOk, is_some, drop}
 use Rattle.pdb_addresses.specs.declared.internal_section_offset.PdbInternalSectionOffset.{
   PdbInternalSectionOffset,
@@ -33,7 +33,7 @@ abbrev pub answer_of : {P : Type 0} → (P → Provided) → Context P → ℕ
     → Result (Option FunctionFrames) Fault
 answer_of provided c a = frames c.parts (scope_in provided c) a
 
--- the part of a module's data whose fault that is
+-- the part of a module's data that has the answer's fault
 abbrev pub failing_of : {P : Type 0} → (P → Provided) → Context P → ℕ → Option Part
 failing_of provided c a = failing c.parts (scope_in provided c) a
 
@@ -48,7 +48,7 @@ function_of provided c a = function c.parts (scope_in provided c) a
 
 -- ---- at a place
 
--- the part of a module's data whose fault the answer at a place is
+-- the part of a module's data that has the fault of the answer at a place
 abbrev pub failing_on : {P : Type 0} → (P → Provided) → Context P → PdbInternalSectionOffset
     → Option Part
 failing_on provided c place =
@@ -102,7 +102,7 @@ files_in provided c = files_of c.parts (scope_in provided c)
 abbrev pub files_keyed_in : {P : Type 0} → (P → Provided) → Context P → Keyed FileKey FileAnswer
 files_keyed_in provided c = files_keyed c.parts (scope_in provided c)
 
--- what a call returned is with how many bytes the answer at a place goes on
+-- a call returned the number of bytes over which the answer at a place goes on
 abbrev pub IsRunOf : {A B : Type 0} → Database A → PdbInternalSectionOffset → ℕ
     → Result (B × ℕ) Error → Type 0
 IsRunOf places place limit result =
@@ -114,7 +114,7 @@ IsRunOf places place limit result =
 abbrev pub starts_in : {P : Type 0} → (P → Provided) → Context P → List ℕ
 starts_in provided c = start_addresses c.parts (scope_in provided c) (entries_of c.formatting)
 
--- what is left of a context's functions at addresses
+-- the functions of a context at addresses that are left
 abbrev pub left_in : {P : Type 0} → (P → Provided) → Context P → List ℕ → FunctionsLeft
 left_in provided c addresses = functions_left c.parts (scope_in provided c) addresses
 
@@ -133,7 +133,7 @@ AreFunctionsOf provided c functions =
 
 -- ---- answers in another form
 
--- what one call answers another one answers, too, unless memory is short
+-- a call answers whatever another one answers, unless memory is short
 abbrev pub AnswersAlike : {X Y : Type 0} → (X → Y) → Result X Error → Result X Error → Type 0
 AnswersAlike {X} {Y} view found result =
     (spec : Result Y Fault) → Answers view found spec → Answers view result spec
@@ -151,7 +151,7 @@ abbrev pub CountsLookup : {P A : Type 0} → Option PdbInternalSectionOffset →
 CountsLookup place old result new =
     new.lookups ≡ lookups_after (is_some place) result old.lookups
 
--- the part whose fault was answered stands as failed
+-- the part that had the fault of the answer stands as failed
 abbrev pub StoresFailed : {P A : Type 0} → Option Part → Context P → Result A Error → Context P
     → Type 0
 StoresFailed part old result new = new.failed ≡ failed_after part result old.failed

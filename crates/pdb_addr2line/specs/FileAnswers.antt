@@ -13,9 +13,9 @@ use Rattle.pdb_owners.specs.Frames.{FunctionFrames}
 use Rattle.pdb_resolving.specs.Fault.{Fault}
 use Rattle.pdb_symbols_modules.specs.Streams.{streams}
 
--- what was read of a file, the bytes that it is taken to have, the order in which its section
--- contributions have to stand, the flags by which names are made, what is held of it, and the
--- context that is asked
+-- the parts of a file that were read, the bytes that it is taken to have, the order in which its
+-- section contributions have to stand, the flags by which names are made, its database, which is
+-- held, and the context that is asked
 pub record FileAnswers : Type 0 where
   pub views : Views
   pub contents : List ℕ
@@ -47,7 +47,7 @@ pub record IsContextOf (f : FileAnswers) (c : Context (List KeptInfo)) : Type 0 
   pub parts : parts_held_with f.order f.held ≡ Ok c.parts
   pub answers : IsKnown f → AnswersNamed f.flags f.order answered_in (streams f.contents) c
 
--- Where the bytes agree with what was read, what is held and what is answered are those of a file
+-- Where the bytes agree with what was read, what is held and what is answered are as for a file
 -- that has them.
 pub record IsOfContents (f : FileAnswers) : Type 0 where
   pub ordered : IsOrdered f.held.tables.map

@@ -11,7 +11,8 @@ use Rattle.pdb_resolving.specs.Fault.{Fault}
 use Rattle.pdb_resolving.specs.declared.error.Error.{Error}
 use Rattle.pdb_resolving.specs.declared.error.Error.TheVariants as errors
 
--- What was found is the answer, and another fault than out of memory comes where that is a fault.
+-- The frames that were found are the answer, and another fault than out of memory comes where the
+-- answer is a fault.
 abbrev pub FindsHeldFrames : Result (Option FunctionFrames) Error
     → Result (Option FunctionFrames) Fault → Type 0
 FindsHeldFrames (Ok found) answered = answered ≡ Ok found
@@ -25,7 +26,7 @@ FindsFrames (Ok found) answered = answered ≡ Ok found
 FindsFrames (Err (Context e)) answered = FindsHeldFrames (Err e) answered
 FindsFrames (Err (File kind)) answered = Unit {0}
 
--- the frames that are found at a place, by an answer as it is counted
+-- the frames that are found at a place, from an answer as it is counted
 abbrev pub found_by : Option (Option FunctionFrames) → Option FunctionFrames
 found_by None = None
 found_by (Some frames) = frames

@@ -21,7 +21,7 @@ abbrev pub IsUnread : {F : Type 0} → ℕ → FileOnDemand F → Type 0
 IsUnread size source = (source.views.size ≡ size) × (source.views.views ≡ [])
     × (source.views.whole ≡ None) × (source.order ≡ InOrder)
 
--- What was read agrees with the bytes that a file is taken to have.
+-- The bytes that were read agree with those that a file is taken to have.
 abbrev pub AgreesWith : {F : Type 0} → FileOnDemand F → FileOnDemand F → Type 0
 AgreesWith read source = agrees read.views source.contents.numbers ≡ true
 
@@ -31,12 +31,12 @@ IsGivenBack source back =
     (back.views ≡ source.views) × (back.contents.numbers ≡ source.contents.numbers)
 
 -- A file that came back was refused: where its bytes agree with what was read, for its loading
--- fault, unless memory ran out or it couldn't be read.
+-- fault, unless memory ran out or the file couldn't be read.
 abbrev pub RefusesFile : {F : Type 0} → FileOnDemand F → FileOnDemand F → FileFault → Type 0
 RefusesFile source back fault = AgreesWith back source
     → OnLoadFault fault (λ cause. Refuses cause (fault_of_file source))
 
--- The modules of a file by what is held of it.
+-- The modules of a file, from its database, which is held.
 abbrev pub AreInfosOf : {F : Type 0} → FileOnDemand F → Held → List KeptInfo → Type 0
 AreInfosOf source held infos = infos ≡ kept_infos (streams source.contents.numbers)
     (modules_of held.debug_information.modules).items

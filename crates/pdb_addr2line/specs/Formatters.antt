@@ -12,7 +12,7 @@ use Rattle.pdb_resolving.specs.Fault.{Fault}
 use Rattle.pdb_resolving.specs.Resolving.{none_failed}
 use Rattle.pdb_addr2line.specs.Context.{Context, context_over}
 
--- what is held, with other modules in place of its own
+-- a database that is held, with other modules in place of its own
 abbrev pub with_modules : Held → List KeptInfo → Held
 with_modules h infos = record {
   debug_information = h.debug_information;
@@ -21,7 +21,8 @@ with_modules h infos = record {
   infos = infos;
 }
 
--- what types and ids are read from: what is held gives the modules, by the entries in stream 3
+-- the tables from which types and ids are read: what is held gives the modules, by the entries in
+-- stream 3
 abbrev pub reading_of : Held → Reading (List KeptInfo)
 reading_of h = record {
   modules = record {
@@ -43,7 +44,7 @@ formatting_of h flags = record { reading = reading_of h; flags = flags }
 abbrev pub context_in : Held → ℕ → Result (Context (List KeptInfo)) Fault
 context_in h flags = context_over h.infos (formatting_of h flags) (parts_held h)
 
--- a context over parts that were made before, with other modules in place of what is held of them;
+-- a context over parts that were made before, with other modules in place of those that are held;
 -- its formatter has these flags
 abbrev pub context_of_modules : Held → List KeptInfo → ℕ → Parts
     → Result (Context (List KeptInfo)) Fault

@@ -13,24 +13,24 @@ use Rattle.pdb_frames.specs.FramesAt.{function}
 use Rattle.pdb_addr2line.specs.Context.{Context, uncounted}
 use Rattle.pdb_addr2line.specs.Starts.{if_any, start_addresses, IsAscending}
 
--- the functions at addresses, of those that have one
+-- the functions at addresses, where an address has one
 abbrev pub functions_at : Parts → (ℕ → Scope) → List ℕ → List Function
 functions_at p scope addresses = flat_map (λ a. if_any (function p scope a)) addresses
 
 -- These are the functions of the distinct image addresses at which a public entry or a procedure
--- begins, in ascending order, of those addresses that have one.
+-- begins, in ascending order, where an address has one.
 abbrev pub AreFunctions : Parts → (ℕ → Scope) → List Module → List Function → Type 0
 AreFunctions p scope entries functions =
     (starts : List ℕ) × IsAscending (start_addresses p scope entries) starts
     × (functions ≡ functions_at p scope starts)
 
--- what an iterator of functions has still to give: the functions at addresses, and how many
--- addresses these are
+-- the functions that an iterator has still to give: those at addresses, and the number of these
+-- addresses
 pub record FunctionsLeft : Type 0 where
   pub functions : List Function
   pub addresses : ℕ
 
--- what is left at addresses
+-- the functions that are left at addresses
 abbrev pub functions_left : Parts → (ℕ → Scope) → List ℕ → FunctionsLeft
 functions_left p scope addresses = record {
   functions = functions_at p scope addresses;
@@ -54,7 +54,7 @@ pub record FunctionIteration (P : Type 0) : Type 0 where
   pub context : MutBor (Context P)
   pub left : FunctionsLeft
 
--- how many of numbers lie from one place of their list on and before another
+-- the number of values in a list from one place on and before another
 abbrev pub passed : List ℕ → ℕ → ℕ → ℕ
 passed numbers old new = length (drop old numbers) - length (drop new numbers)
 

@@ -1,4 +1,4 @@
--- The identity that a database has.
+-- The identity of a database.
 use Rattle.std.specs.Prelude.{◌≡◌, ◌==◌, ℕ, List, if◌then◌else◌, Result, Ok}
 use Rattle.pdb_container.specs.Fault.{◌>>=◌}
 use Rattle.pdb_image.specs.declared.identity.PdbIdentity.{PdbIdentity}
@@ -18,7 +18,7 @@ use Rattle.pdb_symbols_modules.specs.Streams.{Streams, streams}
 abbrev pub identity_by : Information → Dbi → PdbIdentity
 identity_by i d = record { guid = i.guid; age = if d.age == 0 then i.age else d.age }
 
--- what a file says of itself: the container is opened, and streams 1 and 3 are read, in this order
+-- the identity of a file: the container is opened, and streams 1 and 3 are read, in this order
 unfoldable pub identity_in : Streams → Result PdbIdentity LoadingFault
 identity_in s = do
   opened ← lifted (none_or s.open_fault)
@@ -26,11 +26,11 @@ identity_in s = do
   d ← lifted (debug_information (shared s))
   Ok (identity_by i d)
 
--- A file of these bytes says this of itself.
+-- A file of these bytes has this identity.
 abbrev pub HasIdentity : List ℕ → PdbIdentity → Type 0
 HasIdentity bytes identity = identity_in (streams bytes) ≡ Ok identity
 
--- A call that reads it from a file of these bytes returns the fault.
+-- A call that reads the identity from a file of these bytes returns the fault.
 abbrev pub FailsIdentity : List ℕ → LoadFault → Type 0
 FailsIdentity bytes fault = FailsLoading fault (identity_in (streams bytes))
 

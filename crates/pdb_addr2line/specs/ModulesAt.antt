@@ -1,4 +1,4 @@
--- Which modules hold the places of RVAs.
+-- The modules that hold the places of RVAs.
 use Rattle.std.specs.Prelude.{◌≡◌, ℕ, ◌+◌, ◌-◌, ◌^◌, ◌<◌, ◌≤◌, Bool, true, false, ◌&&◌, nat_lt}
 use Rattle.std.specs.Prelude.{List, [], ◌∷◌, map, Option, None, Some, option_map}
 use Rattle.std.specs.List.{filter}
@@ -16,7 +16,7 @@ use Rattle.pdb_addr2line.specs.Starts.{is_among}
 abbrev pub module_at : Parts → ℕ → Option ℕ
 module_at p a = option_map (λ held. (held.0).module_index) (held_at p (place_of p a))
 
--- a range of internal addresses in which those of runs lie: those of one run; of several all but
+-- a range of internal addresses in which those of runs lie: one run's own; for several runs all but
 -- 0xffffffff, which is in no run
 abbrev pub cover : List TranslatedRun → Range ℕ
 cover [] = record { start = 0; end = 0 }

@@ -1,4 +1,4 @@
--- When a call that reads a database as a whole may be refused.
+-- The faults for which a call that reads a database as a whole may be refused.
 use Rattle.std.specs.Prelude.{◌≡◌, ℕ, ◌⊎◌, List, Result, Ok, Err}
 use Rattle.pdb_container.specs.declared.error.Error.TheVariants as causes
 use Rattle.pdb_container.specs.Fault.{Fault, fault_of, IsOutside, HasRisen}
@@ -14,7 +14,7 @@ abbrev pub CanFail : {S : Type 0} → (S → List ℕ) → (S → ℕ) → S →
 CanFail {S} bytes failures before =
     (after : S) × (bytes after ≡ bytes before) × HasRisen (failures before) (failures after)
 
--- Memory was short, the source failed, or reading has that fault. Out of memory never comes as the
+-- Memory was short, the source failed, or reading has this fault. Out of memory never comes as the
 -- container's.
 abbrev pub Refuses : {Y : Type 0} → Type 0 → Error → Result Y Fault → Type 0
 Refuses failed errors.OutOfMemory read = Unit {0}
@@ -22,13 +22,12 @@ Refuses failed (errors.PdbError causes.OutOfMemory) read = ⊥
 Refuses failed (errors.PdbError e) read = IsOutside e failed ⊎ (read ≡ Err (fault_of e))
 Refuses failed e read = ⊥
 
--- What a call returned, seen by view, is what reading gives, unless it was refused for what is
--- outside.
+-- A call returned what reading gives, seen by view, unless it was refused for what is outside.
 abbrev pub Loads : {X Y : Type 0} → (X → Y) → Type 0 → Result X Error → Result Y Fault → Type 0
 Loads view failed (Ok x) read = read ≡ Ok (view x)
 Loads view failed (Err e) read = Refuses failed e read
 
--- what is read in order of a database, by the bytes of its file
+-- the tables of a database that are read in order, from the bytes of its file
 abbrev pub read_of_file : List ℕ → Result DatabaseRead Fault
 read_of_file file = database_read (shared (streams file))
 

@@ -1,4 +1,4 @@
--- Where functions begin: the image addresses of public entries and of all modules' procedures.
+-- The starts of functions: the image addresses of public entries and of all modules' procedures.
 use Rattle.std.specs.Prelude.{◌≡◌, ℕ, ◌+◌, ◌==◌, Bool, List, [], ◌∷◌, ◌++◌, map, Option, None, Some}
 use Rattle.std.specs.Prelude.{Result, OnOk, option_map}
 use Rattle.std.specs.Global.{Vec}
@@ -27,36 +27,36 @@ if_any (Some x) = x ∷ []
 abbrev pub address_of : Map → PdbInternalSectionOffset → List ℕ
 address_of map p = if_any (outer_of_place map p.section p.offset)
 
--- the image addresses of places, of those that have one
+-- the image addresses of those places that have one
 abbrev pub addresses_of : Map → List PdbInternalSectionOffset → List ℕ
 addresses_of map places = flat_map (λ p. address_of map p) places
 
--- where public entries begin
+-- the starts of public entries
 abbrev pub public_starts : List PublicFunction → List PdbInternalSectionOffset
 public_starts publics = map (λ f. f.start_offset) publics
 
--- where procedures begin
+-- the starts of procedures
 abbrev pub starts_of : List Procedure → List PdbInternalSectionOffset
 starts_of procedures = map (λ q. q.offset) procedures
 
--- where the procedures of modules begin, from the module with that index on
+-- the starts of the procedures of modules, from the module with that index on
 abbrev pub procedure_starts_from : (ℕ → Scope) → ℕ → List Module → List PdbInternalSectionOffset
 procedure_starts_from scope number [] = []
 procedure_starts_from scope number (entry ∷ entries) =
     starts_of (procedures_in (module_data (scope number).own))
     ++ procedure_starts_from scope (number + 1) entries
 
--- where public entries and procedures begin, as image addresses
+-- the starts of public entries and procedures, as image addresses
 abbrev pub start_addresses : Parts → (ℕ → Scope) → List Module → List ℕ
 start_addresses p scope entries =
     addresses_of p.map (public_starts p.publics)
     ++ addresses_of p.map (procedure_starts_from scope 0 entries)
 
--- where the procedures of a module begin
+-- the starts of the procedures of a module
 abbrev pub procedure_starts : Scope → List PdbInternalSectionOffset
 procedure_starts scope = starts_of (procedures_in (module_data scope.own))
 
--- the same by what gives the modules and what names are made of: of the module with that index
+-- the same from the provider of modules and a formatter: of the module with that index
 abbrev pub module_starts : {P : Type 0} → (P → Provided) → P → Formatting P → ℕ
     → List PdbInternalSectionOffset
 module_starts provided provider formatting m =
@@ -68,7 +68,7 @@ abbrev pub all_starts : {P : Type 0} → (P → Provided) → P → Formatting P
 all_starts provided provider formatting =
     procedure_starts_from (scope_of provided provider formatting) 0 (entries_of formatting)
 
--- the image addresses by what gives the modules and what names are made of
+-- the image addresses from the provider of modules and a formatter
 abbrev pub starts_given : {P : Type 0} → (P → Provided) → P → Parts → Formatting P → List ℕ
 starts_given provided provider parts formatting =
     start_addresses parts (scope_of provided provider formatting) (entries_of formatting)
@@ -94,7 +94,7 @@ pub record IsAscending (numbers ascending : List ℕ) : Type 0 where
   pub rising : IsStrictlySortedBy nat_cmp ascending
   pub same : (n : ℕ) → is_among ascending n ≡ is_among numbers n
 
--- the numbers that are cached, if they are, are the same in ascending order, each once
+-- the numbers that are cached, if some are, are the same in ascending order, each once
 abbrev pub AreStarts : List ℕ → Option (List ℕ) → Type 0
 AreStarts numbers None = Unit {0}
 AreStarts numbers (Some starts) = IsAscending numbers starts

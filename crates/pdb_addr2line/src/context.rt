@@ -27,8 +27,8 @@ use pdb_symbols_modules::DebugInformation;
 use std::alloc::Global;
 use std::marker::Model;
 
-/// A context: it answers what function and which frames an address of the image has. What was asked
-/// before shows in no answer.
+/// A context: it answers which function and which frames an address of the image has. What was
+/// asked before shows in no answer.
 pub struct Context<'a, 's, P: ModuleProvider> {
     pub(crate) symbolizer: PlaceSymbolizer<'a, 's, P>,
     pub(crate) starts: Option<Vec<u32>>,
@@ -51,7 +51,7 @@ impl<'a, 's, P: ModuleProvider> Model for Context<'a, 's, P> {
       failed = c.symbolizer.failed;
     } };
 
-    // The starts that are cached are those of the file's functions.
+    // The starts that are cached are the starts of the file's functions.
     ghost invariant = { λ c.
         AreStarts
         (start_addresses c.symbolizer.parts
@@ -97,7 +97,7 @@ fn owned_frames<'a>(
 }
 
 impl<'a, 's, P: ModuleProvider> Context<'a, 's, P> {
-    /// A context over what gives the modules, the sections of the image, the address map, the
+    /// A context over the provider of the modules, the sections of the image, the address map, the
     /// symbol records, the string table (`/names`), the DBI stream, and a formatter of types. The
     /// sources of the OMAPs must not decrease ([`AddressMap::is_ordered`]).
     ///
@@ -131,8 +131,9 @@ impl<'a, 's, P: ModuleProvider> Context<'a, 's, P> {
         Context::with_parts(alloc, provider, parts, type_formatter)
     }
 
-    /// A context over what gives the modules, parts that were made before ([`ContextParts::new`],
-    /// [`Context::into_parts`]), and a formatter of types. Nothing of the database is read.
+    /// A context over the provider of the modules, parts that were made before
+    /// ([`ContextParts::new`], [`Context::into_parts`]), and a formatter of types. Nothing of the
+    /// database is read.
     ///
     /// # Errors
     /// `OutOfMemory` alone.
@@ -154,14 +155,14 @@ impl<'a, 's, P: ModuleProvider> Context<'a, 's, P> {
         })
     }
 
-    /// What gives the modules.
+    /// The provider of the modules.
     pub fn provider(&self) -> &'a P
         ensures { result.now ≡ self.now.provider }
     {
         self.symbolizer.provider()
     }
 
-    /// What every question goes over, for another context over the same tables
+    /// The parts that every question goes over, for another context over the same tables
     /// ([`Context::with_parts`]). What was cached of modules, names and starts is let go.
     pub fn into_parts(self) -> ContextParts<'a, 's>
         ensures { result ≡ self.entry.parts }
@@ -175,16 +176,17 @@ impl<'a, 's, P: ModuleProvider> Context<'a, 's, P> {
         symbolizer.into_parts()
     }
 
-    /// How many entries the public list has: public symbols and placeholders, one for each place.
+    /// The number of entries of the public list: public symbols and placeholders, one for each
+    /// place.
     pub fn function_count(&self) -> usize
         ensures { result ≡ length self.now.parts.publics }
     {
         self.symbolizer.parts().publics.len()
     }
 
-    /// How many places were looked up: one for each run, and for each question about an RVA that
-    /// has a place, unless it was refused for lack of memory. At `u64::MAX` the count stays. No
-    /// clause says how many [`Context::functions`] adds.
+    /// The number of places that were looked up: one for each run, and for each question about an
+    /// RVA that has a place, unless it was refused for lack of memory. At `u64::MAX` the count
+    /// stays. No clause says how many [`Context::functions`] adds.
     pub fn lookups(&self) -> u64
         ensures { result ≡ self.now.lookups }
     {
@@ -251,7 +253,7 @@ impl<'a, 's, P: ModuleProvider> Context<'a, 's, P> {
     /// the context's cache, so that none is copied.
     ///
     /// # Errors
-    /// As [`Context::find_frames`].
+    /// The errors of [`Context::find_frames`].
     #[tactic(auto, unfolding(pdb_frames::specs::FramesAt::frames))]
     pub fn find_shared_frames(
         &mut self,
@@ -288,8 +290,8 @@ impl<'a, 's, P: ModuleProvider> Context<'a, 's, P> {
         self.counted(function)
     }
 
-    /// Returns the function at a place, if there is one, and over how many bytes from there on it
-    /// is the same. That is the lesser of `limit`, which is at least 1, and the distance to the
+    /// Returns the function at a place, if there is one, and the number of bytes from there on over
+    /// which it is the same: the lesser of `limit`, which is at least 1, and the distance to the
     /// next bound in the section. Bounds are where a contribution begins or ends, where a procedure
     /// of the module that holds the place begins or ends, and where a public entry begins.
     ///

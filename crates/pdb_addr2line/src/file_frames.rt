@@ -1,4 +1,4 @@
-//! The frames at an address or a place, by a file that is read on demand.
+//! The frames at an address or a place, from a file that is read on demand.
 
 ghost use Rattle.std.specs.Prelude.{◌≡◌, ◌≤◌, Err, IfOk, Option, Result as Answer};
 ghost use Rattle.pdb_addr2line.specs.FileAnswers.{IsKnown, answer_of_file, frames_of_file};
@@ -17,10 +17,10 @@ use std::io::ErrorKind;
 use std::os::unix::fs::FileExt;
 use thiserror::Error as ThisError;
 
-/// Why the frames at an address aren't found in a file that is read on demand.
+/// The reason that the frames at an address aren't found in a file that is read on demand.
 #[derive(Debug, Drop, ThisError)]
 pub enum FileFramesFault {
-    /// As in a file that is in memory.
+    /// A fault that a file in memory has, too.
     #[error("{0}")]
     Context(Error),
     /// The file couldn't be read.
@@ -28,7 +28,7 @@ pub enum FileFramesFault {
     File(ErrorKind),
 }
 
-/// How reading a file failed; out of memory has one name.
+/// The fault for an error in reading a file; out of memory has one name.
 fn read_fault(kind: ErrorKind) -> FileFramesFault
     ensures { (answered : Answer (Option Found) Fault) → FindsFrames (Err result) answered }
 {
@@ -39,7 +39,7 @@ fn read_fault(kind: ErrorKind) -> FileFramesFault
 }
 
 impl<'a, F: Drop> FileSymbolizer<'a, F> {
-    /// The frames at an RVA by what was read.
+    /// The frames at an RVA from what was read.
     ///
     /// # Errors
     /// As [`Context::find_frames`](crate::Context::find_frames); `OutOfMemory`, too, where
@@ -65,8 +65,8 @@ impl<'a, F: Drop> FileSymbolizer<'a, F> {
         }
     }
 
-    /// The frames at an RVA by what was read, with names that are shared with the context's cache,
-    /// so that none is copied. What is missing is read by [`FileSymbolizer::go_on`].
+    /// The frames at an RVA from what was read, with names that are shared with the context's
+    /// cache, so that none is copied. What is missing is read by [`FileSymbolizer::go_on`].
     ///
     /// # Errors
     /// As [`Context::find_shared_frames`](crate::Context::find_shared_frames); `OutOfMemory`, too,
@@ -92,7 +92,7 @@ impl<'a, F: Drop> FileSymbolizer<'a, F> {
         }
     }
 
-    /// The frames at a place by what was read, and how far they go on.
+    /// The frames at a place from what was read, and how far they go on.
     ///
     /// # Errors
     /// `OutOfMemory` alone, also where something has to be read first.
@@ -157,10 +157,11 @@ impl<'a, F: FileExt + Drop> FileSymbolizer<'a, F> {
         Err(FileFramesFault::Context(Error::OutOfMemory))
     }
 
-    /// The frames at a place, and over how many bytes from there on they are the same, the rows of
-    /// frames among them, as [`Context::find_frames_run`](crate::Context::find_frames_run) counts
-    /// them. There are none where there is no function, and none where the frames can't be read.
-    /// What is missing of the file is read.
+    /// The frames at a place, and the number of bytes from there on over which they are the same,
+    /// the rows of frames among them, as
+    /// [`Context::find_frames_run`](crate::Context::find_frames_run) counts them. There are none
+    /// where there is no function, and none where the frames can't be read. What is missing of the
+    /// file is read.
     ///
     /// # Errors
     /// `Context` with `OutOfMemory`; `File` where the file couldn't be read.

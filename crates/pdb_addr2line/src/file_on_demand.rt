@@ -17,23 +17,23 @@ use std::alloc::{AllocError, Global};
 use std::io::{self, ErrorKind};
 use std::os::unix::fs::FileExt;
 
-/// How often the identity is asked for again after what it lacked was read: the container's
-/// directory, and two streams.
+/// The number of times that the identity is asked for again after what it lacked was read: the
+/// container's directory, and two streams.
 const IDENTITY_ROUNDS: u32 = 32;
 
 /// A file that is read on demand.
 #[derive(Drop)]
 pub struct FileOnDemand<'a, F: Drop> {
-    /// Where what is held of the file lies. An arena drops no value, so that stays in memory until
-    /// the process ends.
+    /// The arena in which everything that is held of the file lies. An arena drops no value, so
+    /// that it stays in memory until the process ends.
     pub arena: &'a Bump,
     /// The file.
     pub file: F,
-    /// What was read of it.
+    /// The parts of the file that were read.
     pub views: FileViews,
-    /// The bytes that contracts take the file to have. It has no bytes itself.
+    /// The bytes that contracts take the file to have. The tag itself has no bytes.
     pub contents: Tag,
-    /// In which order section contributions have to stand.
+    /// The order in which section contributions have to stand.
     pub order: ContributionOrder,
 }
 
@@ -62,7 +62,7 @@ impl<'a, F: Drop> FileOnDemand<'a, F> {
     }
 }
 
-/// How reading a file failed; out of memory has one name.
+/// The fault for an error in reading a file; out of memory has one name.
 fn read_fault(error: &io::Error) -> FileFault
     ensures { OnLoadFault result (λ cause. cause ≡ faults.OutOfMemory) }
 {
@@ -72,8 +72,8 @@ fn read_fault(error: &io::Error) -> FileFault
     }
 }
 
-/// The identity of a file's database by what was read of it. What it lacks is noted as wanted, and
-/// is out of memory here.
+/// The identity of a file's database from what was read of it. Bytes that it lacks are noted as
+/// wanted, and are out of memory here.
 #[tactic(auto, using(pdb_loading::proofs::OnDemand::bytes_agree))]
 fn identity_of_views(
     alloc: Global,
@@ -98,8 +98,8 @@ impl<'a, F: FileExt + Drop> FileOnDemand<'a, F> {
     /// the file is read.
     ///
     /// # Errors
-    /// `Load` with those of the container, of the information stream (1), and of stream 3; `File`
-    /// where the file couldn't be read.
+    /// `Load` with the errors of the container, of the information stream (1), and of stream 3;
+    /// `File` where the file couldn't be read.
     pub fn identity(&mut self, alloc: Global) -> Result<PdbIdentity, FileFault>
         ensures contents { self.new.contents ≡ self.old.contents }
         ensures order { self.new.order ≡ self.old.order }

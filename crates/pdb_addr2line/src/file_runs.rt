@@ -15,9 +15,9 @@ use pdb_resolving::{ModuleProvider, Result};
 use std::alloc::Global;
 
 impl<'a, 's, P: ModuleProvider> Context<'a, 's, P> {
-    /// Returns the source file of the function at a place, and over how many bytes from there on
-    /// the file is the same. That is the lesser of `limit`, which is at least 1, and the distance
-    /// to the next bound. Bounds are the places at which the function may change
+    /// Returns the source file of the function at a place, and the number of bytes from there on
+    /// over which the file is the same: the lesser of `limit`, which is at least 1, and the
+    /// distance to the next bound. Bounds are the places at which the function may change
     /// ([`Context::find_function_run`]) and, where there are frames, those at which a line row of
     /// the function begins. What stands as failed doesn't change.
     ///

@@ -33,16 +33,16 @@ use std::io::ErrorKind;
 use std::marker::Model;
 use std::os::unix::fs::FileExt;
 
-/// How often just the modules that are asked for are read; the next time all are, and then all of
-/// the file. More rounds would read less of a file of which a little is asked again and again, and
-/// each makes a context.
+/// The number of times that just the modules that are asked for are read; the next time all are,
+/// and then all of the file. More rounds would read less of a file of which a little is asked again
+/// and again, and each makes a context.
 const EXACT_ROUNDS: u32 = 2;
 
-/// How often a question is asked again after what it lacked was read. A file of which all was read
-/// lacks nothing.
+/// The number of times that a question is asked again after what it lacked was read. A file of
+/// which all was read lacks nothing.
 pub const TRIES: u32 = 8;
 
-/// What is held of a file's database: what contexts and formatters are made of.
+/// The database of a file that is held: contexts and formatters are made of it.
 pub type Held = ContextPdbData<'static, 'static, FileSource>;
 
 /// A context over a file that was loaded.
@@ -53,14 +53,14 @@ pub type FileContext<'a> = Context<'a, 'static, KeptModules<'static>>;
 /// have, and hold where these agree with everything that was read.
 pub struct FileSymbolizer<'a, F: Drop> {
     source: FileOnDemand<'a, F>,
-    /// By which names of functions are made.
+    /// The flags by which names of functions are made.
     flags: TypeFormatterFlags,
     held: &'a Held,
-    /// What the modules lacked.
+    /// The bytes that the modules lacked.
     wanted: Wanted,
-    /// `None` once memory ran out while one was made.
+    /// The context; `None` once memory ran out while one was made.
     pub(crate) context: Option<FileContext<'a>>,
-    /// How often what was wanted was read.
+    /// The number of times that what was wanted was read.
     rounds: u32,
 }
 
@@ -104,16 +104,16 @@ impl<'a, F: Drop> Drop for FileSymbolizer<'a, F> {
     }
 }
 
-/// Why a file that is read on demand isn't loaded, and the file.
+/// A file that is read on demand and isn't loaded, with its fault.
 #[derive(Drop)]
 pub struct NotLoaded<'a, F: Drop> {
-    /// Why not.
+    /// The fault.
     pub fault: FileFault,
     /// The file, with what was read of it.
     pub source: FileOnDemand<'a, F>,
 }
 
-/// A symbolizer of a file that was loaded by what was read of it.
+/// A symbolizer of a file that was loaded from what was read of it.
 ///
 /// # Errors
 /// The file, where memory runs out.
@@ -223,7 +223,7 @@ impl<'a, F: FileExt + Drop> FileSymbolizer<'a, F> {
     }
 }
 
-/// The modules of what was read of a file. What they lack is noted as wanted.
+/// The modules of what was read of a file. Bytes that they lack are noted as wanted.
 fn modules_of_file<F: Drop>(
     alloc: Global,
     source: &FileOnDemand<'_, F>,
@@ -264,7 +264,8 @@ impl<'a, F: Drop> FileSymbolizer<'a, F> {
         (source, context)
     }
 
-    /// What is held of the file: its tables, of which formatters and contexts are made.
+    /// The database of the file that is held: its tables, of which formatters and contexts are
+    /// made.
     pub fn held(&self) -> &'a Held
         ensures held { result.now ≡ self.now.held }
         ensures loaded { IsKnown self.now
@@ -361,8 +362,8 @@ impl<'a, F: Drop> FileSymbolizer<'a, F> {
         }
     }
 
-    /// Makes a context over the modules of what was read. What every question goes over is taken
-    /// over from the last one.
+    /// Makes a context over the modules of what was read. The parts that every question goes over
+    /// are taken over from the last one.
     #[tactic(auto, using(crate::proofs::FileSteps::renewed, crate::proofs::FileSteps::without_context, crate::proofs::HeldModules::parts_of_context))]
     fn renew(&mut self, alloc: Global) -> Result<(), AllocError>
         ensures contents { self.new.contents ≡ self.old.contents }
@@ -396,7 +397,7 @@ impl<'a, F: Drop> FileSymbolizer<'a, F> {
     }
 }
 
-/// A context over these modules, and over the parts of another one, if there is one: by the order
+/// A context over these modules, and over the parts of another one, if there is one, with the order
 /// in which section contributions have to stand, and the flags of names.
 #[tactic(auto, using(crate::proofs::HeldModules::over_held, crate::proofs::HeldModules::parts_of_context))]
 fn context_over<'a>(
@@ -427,12 +428,12 @@ fn context_over<'a>(
 }
 
 impl<'a, F: FileExt + Drop> FileSymbolizer<'a, F> {
-    /// Reads what was asked for and is missing, and goes on with it: what was answered by
-    /// `AllocError` for want of it can be asked again. Returns whether anything was missing. Twice
-    /// just that is read, the third time all modules are, and from then on all of the file.
+    /// Reads what was asked for and is missing, and goes on with it: a question that was answered
+    /// by `AllocError` for want of it can be asked again. Returns whether anything was missing.
+    /// Twice just this is read, the third time all modules are, and from then on all of the file.
     ///
     /// # Errors
-    /// The kind of what failed: `OutOfMemory`, or that of the file.
+    /// The kind of the error: `OutOfMemory`, or the kind of the file's.
     #[tactic(auto, using(crate::proofs::FileSteps::grown))]
     pub fn go_on(&mut self, alloc: Global) -> Result<bool, ErrorKind>
         ensures contents { self.new.contents ≡ self.old.contents }

@@ -30,13 +30,13 @@ fn owned_run<'a>(
 }
 
 impl<'a, 's, P: ModuleProvider> Context<'a, 's, P> {
-    /// Returns the frames at a place, and over how many bytes from there on they are the same, the
-    /// rows of frames among them. There are none where there is no function, and none where the
-    /// frames can't be read. The number of bytes is the lesser of `limit`, which is at least 1, and
-    /// the distance to the next bound. Bounds are the places at which the function may change
-    /// ([`Context::find_function_run`]) and, where there are frames, those at which a line row of
-    /// the function begins, or a row of one of its inlined calls begins or ends. What stands as
-    /// failed doesn't change.
+    /// Returns the frames at a place, and the number of bytes from there on over which they are the
+    /// same, the rows of frames among them. There are none where there is no function, and none
+    /// where the frames can't be read. The number of bytes is the lesser of `limit`, which is at
+    /// least 1, and the distance to the next bound. Bounds are the places at which the function may
+    /// change ([`Context::find_function_run`]) and, where there are frames, those at which a line
+    /// row of the function begins, or a row of one of its inlined calls begins or ends. What stands
+    /// as failed doesn't change.
     ///
     /// # Errors
     /// `OutOfMemory` alone.

@@ -1,4 +1,4 @@
-//! Where functions begin: the RVAs of the public list's entries and of all modules' procedures.
+//! The starts of functions: the RVAs of the public list's entries and of all modules' procedures.
 
 ghost use Rattle.std.specs.Prelude.{◌≡◌, ◌++◌, IfOk, OnOk};
 ghost use Rattle.pdb_addresses.specs.Addresses.{IsOrdered};
@@ -135,8 +135,8 @@ fn copied(alloc: Global, numbers: &Vec<u32>) -> Result<Vec<u32>, AllocError>
     Ok(copy)
 }
 
-/// The distinct RVAs at which functions begin, in ascending order: those that are cached, or
-/// else they are found and cached. Nothing is cached where memory is short.
+/// The distinct RVAs at which functions begin, in ascending order: the cached ones, or else they
+/// are found and cached. Nothing is cached where memory is short.
 pub fn kept_starts<P: ModuleProvider>(
     alloc: Global,
     kept: &mut Option<Vec<u32>>,

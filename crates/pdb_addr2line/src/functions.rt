@@ -15,9 +15,9 @@ use pdb_resolving::{ModuleProvider, Result};
 use std::alloc::Global;
 use std::marker::Model;
 
-/// The functions of a file: that at each distinct RVA at which an entry of the public list or a
-/// procedure begins, in ascending order, where there is one. After an error, `OutOfMemory`, there
-/// is none.
+/// The functions of a file: the function at each distinct RVA at which an entry of the public list
+/// or a procedure begins, in ascending order, where there is one. After an error, `OutOfMemory`,
+/// there is none.
 #[derive(Drop)]
 pub struct FunctionIter<'c, 'a, 's, P: ModuleProvider> {
     context: &'c mut Context<'a, 's, P>,
@@ -114,8 +114,8 @@ impl<'a, 's, P: ModuleProvider> Context<'a, 's, P> {
 
     /// The functions of the file: [`Context::find_function`] of each distinct RVA at which an entry
     /// of the public list or a procedure of any module begins, in ascending order, where it finds
-    /// one. A module whose symbols can't be read has no procedures here. Where they begin is found
-    /// once and cached.
+    /// one. A module whose symbols can't be read has no procedures here. The RVAs are found once
+    /// and cached.
     ///
     /// # Errors
     /// `OutOfMemory` alone.

@@ -26,7 +26,8 @@ fn identity_of(alloc: Global, pdb: &mut PDB<'static, FileSource>) -> Result<PdbI
 /// The identity of the database that a source holds.
 ///
 /// # Errors
-/// Those of its container, of the information stream (1), and of stream 3; `OutOfMemory`.
+/// The errors of the source's container, of the information stream (1), and of stream 3;
+/// `OutOfMemory`.
 #[tactic(auto, unfolding(crate::specs::Identity::identity_in))]
 pub(crate) fn identity_of_source(
     alloc: Global,

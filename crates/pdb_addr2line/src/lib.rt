@@ -1,12 +1,12 @@
-//! Program databases, each loaded once, by its bytes ([`Symbolizer`]) or by a file that is read on
-//! demand ([`FileSymbolizer`]); and what is made of what is held of them: formatters of types, and
-//! contexts, which answer their addresses. Of a context, what was read of a module or a procedure,
-//! the names of functions and where functions begin are cached; what was asked before shows in no
-//! answer.
+//! Program databases, each loaded once, from its bytes ([`Symbolizer`]) or from a file that is read
+//! on demand ([`FileSymbolizer`]); and the values that are made of a database that is held:
+//! formatters of types, and contexts, which answer their addresses. Of a context, what was read of
+//! a module or a procedure, the names of functions and where functions begin are cached; what was
+//! asked before shows in no answer.
 //!
-//! How much of a file is read, how often it is asked again and what a context caches may change.
-//! Which fault keeps a file from being loaded may not, nor may answers, nor the names of calls,
-//! which are those of the crate pdb-addr2line where it has them.
+//! The amount that is read of a file, how often it is asked again and what a context caches may
+//! change. The fault that keeps a file from being loaded may not, nor may answers, nor the names of
+//! calls, which are those of the crate pdb-addr2line where it has them.
 //!
 //! A symbolizer refuses a database whose address map is out of order. A [`ContextPdbData`] is read
 //! once over any source, and modules of a file when they are first asked for; contexts and
@@ -20,7 +20,7 @@
 //! }
 //! ```
 //!
-//! And so is a formatter:
+//! A formatter is asked in the same way:
 //!
 //! ```rust
 //! let text = formatter.format_function(rt.alloc(), "read", 0, TypeIndex(0x1007))?;

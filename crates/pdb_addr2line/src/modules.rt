@@ -1,4 +1,4 @@
-//! Which modules hold the places of RVAs.
+//! The modules that hold the places of RVAs.
 
 ghost use Rattle.std.specs.Prelude.{◌≡◌, ℕ, ◌<◌, ◌≤◌, IfOk, IsOkUnless};
 ghost use Rattle.pdb_addresses.specs.Addresses.{IsOrdered};
@@ -14,8 +14,8 @@ use pdb_resolving::{Error, ModuleProvider, Result};
 use std::alloc::{AllocError, Global};
 use std::ops::Range;
 
-/// A range of internal addresses in which those of a range of RVAs lie, but for 0xffffffff: what
-/// the RVAs become, where that is one run; all, where the OMAP has moved parts of it.
+/// A range of internal addresses that has those of a range of RVAs, but for 0xffffffff: one run,
+/// where the RVAs become one; all addresses, where the OMAP has moved parts of it.
 fn covering_range(map: &AddressMap<'_>, start: u32, end: u32) -> Range<u32>
     requires { IsOrdered map.now }
     ensures { result ≡ cover (runs map.now.to_internal start end) }
@@ -69,7 +69,7 @@ fn holding_modules(
 }
 
 impl<'a, 's, P: ModuleProvider> Context<'a, 's, P> {
-    /// Returns the index of the module that holds the place of an RVA: the one whose stream an
+    /// Returns the index of the module that holds the place of an RVA: the module whose stream an
     /// answer at this address needs. It isn't counted as a lookup.
     pub fn module_at(&self, probe: u32) -> Option<usize>
         ensures { result ≡ module_at_rva self.now.parts probe }

@@ -1,4 +1,4 @@
-//! The names of what a program database is made of, and of what one that is open answers.
+//! The names for reading a program database: its parts, and the answers of an open one.
 
 pub use pdb_container_types::AddressMap;
 pub use pdb_container_types::ArgumentList;

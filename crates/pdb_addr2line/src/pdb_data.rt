@@ -1,4 +1,4 @@
-//! What formatters and contexts are made of.
+//! A database that is held, of which formatters and contexts are made.
 
 ghost use Rattle.std.specs.Prelude.{◌≡◌, ◌≤◌, IfOk, IsOkUnless, Ok};
 ghost use Rattle.pdb_addresses.specs.Addresses.{IsOrdered};
@@ -28,10 +28,10 @@ use pdb_type_printing::TypeFormatterFlags;
 use std::alloc::Global;
 use std::marker::{Model, PhantomData};
 
-/// What formatters and contexts are made of: everything of a program database that they go over,
-/// read once and owned. `'p` is how long the database itself may be borrowed elsewhere; nothing is
-/// read of it any more, but of a file ([`ContextPdbData::try_from_file`]) the modules' own streams,
-/// when they are first asked for.
+/// A database that is held, of which formatters and contexts are made: everything of it that they
+/// go over, read once and owned. `'p` is how long the database itself may be borrowed by others;
+/// nothing is read of it any more, but of a file ([`ContextPdbData::try_from_file`]) the modules'
+/// own streams, when they are first asked for.
 pub struct ContextPdbData<'p, 's, S: Source> {
     held: HeldDatabase<'s>,
     of: PhantomData<&'p S>,
@@ -57,7 +57,7 @@ impl<'p, 's, S: Source> Drop for ContextPdbData<'p, 's, S> {
 }
 
 impl<'p, 's, S: Source + Drop> ContextPdbData<'p, 's, S> {
-    /// Reads what formatters and contexts need of a database that is open, and lets go of it.
+    /// Reads all that formatters and contexts need of a database that is open, and lets go of it.
     ///
     /// # Errors
     /// The first fault in this order, as `PdbError`: stream 3 and its header; the symbol records'
@@ -78,7 +78,7 @@ impl<'p, 's, S: Source + Drop> ContextPdbData<'p, 's, S> {
         ContextPdbData::try_from_pdb_ref(alloc, &mut pdb)
     }
 
-    /// Reads a database that someone else owns. It answers the same questions afterwards as before.
+    /// Reads a database that has another owner. It answers the same questions afterwards as before.
     ///
     /// # Errors
     /// As [`ContextPdbData::try_from_pdb`].
@@ -100,11 +100,11 @@ impl<'p, 's, S: Source + Drop> ContextPdbData<'p, 's, S> {
 }
 
 impl<'p, 's> ContextPdbData<'p, 's, FileSource> {
-    /// Reads what formatters and contexts need of a file's database that is open, and holds the
+    /// Reads all that formatters and contexts need of a file's database that is open, and holds the
     /// file: the modules' own streams are read when they are first asked for.
     ///
     /// # Errors
-    /// As [`ContextPdbData::try_from_pdb`]; none of a source.
+    /// The errors of [`ContextPdbData::try_from_pdb`], but none of a source.
     #[tactic(auto, using(crate::proofs::Refusals::refused))]
     pub fn try_from_file(
         alloc: Global,
@@ -121,7 +121,7 @@ impl<'p, 's> ContextPdbData<'p, 's, FileSource> {
 }
 
 impl<'p, 's, S: Source> ContextPdbData<'p, 's, S> {
-    /// What contexts and formatters are made of, by what is held of a database.
+    /// A database for contexts and formatters, from one that is held.
     pub fn from_held(held: HeldDatabase<'s>) -> ContextPdbData<'p, 's, S>
         ensures { result ≡ held.entry }
     {
@@ -250,7 +250,8 @@ impl<'p, 's, S: Source> ContextPdbData<'p, 's, S> {
         self.make_context_with_order(alloc, flags, ContributionOrder::InOrder)
     }
 
-    /// What every question goes over, where section contributions have to stand in that order.
+    /// The parts that every question goes over, where section contributions have to stand in that
+    /// order.
     fn parts(
         &self,
         alloc: Global,
@@ -281,8 +282,8 @@ impl<'p, 's, S: Source> ContextPdbData<'p, 's, S> {
 
     /// A context as [`ContextPdbData::make_context_with_formatter_flags`] makes it, where section
     /// contributions have to stand in that order. In any order, where merging them is refused for
-    /// it, the first one in the order of the file that holds a place is its holder. GNU ld before
-    /// 2.44 writes such databases.
+    /// their order, the first one in the order of the file that holds a place is its holder. GNU ld
+    /// before 2.44 writes such databases.
     ///
     /// # Errors
     /// As [`Context::new_from_parts`]; in any order no `UnorderedSectionContributions`.

@@ -25,7 +25,7 @@ use pdb_type_printing::TypeFormatterFlags;
 use std::alloc::Global;
 use std::marker::Model;
 
-/// A symbolizer: a program database that was loaded, with what contexts are made of. Its value in
+/// A symbolizer: a program database that was loaded, of which contexts are made. Its value in
 /// contracts is the file's bytes, with the order in which section contributions have to stand.
 pub struct Symbolizer {
     file: FileSource,
@@ -90,8 +90,8 @@ impl Symbolizer {
 
     /// Loads the program database of a file's bytes as [`Symbolizer::open`], where section
     /// contributions have to stand in that order. In any order, where merging them is refused for
-    /// it, the first one in the order of the file that holds a place is its holder. GNU ld before
-    /// 2.44 writes such databases.
+    /// their order, the first one in the order of the file that holds a place is its holder. GNU ld
+    /// before 2.44 writes such databases.
     ///
     /// # Errors
     /// As [`Symbolizer::open`]; in any order no `UnorderedSectionContributions`.
@@ -180,7 +180,8 @@ impl Symbolizer {
         }
     }
 
-    /// What is held of the file: its tables, of which formatters and contexts are made.
+    /// The database of the file that is held: its tables, of which formatters and contexts are
+    /// made.
     pub fn held(&self) -> &Held
         ensures { IsLoadedWith self.now.order self.now.bytes result.now }
     {
@@ -191,7 +192,7 @@ impl Symbolizer {
     /// DBI header, or that of the information stream where the header has none.
     ///
     /// # Errors
-    /// Those of the information stream (1); `OutOfMemory`.
+    /// The errors of the information stream (1); `OutOfMemory`.
     pub fn identity(&self, alloc: Global) -> Result<PdbIdentity, LoadFault>
         ensures identity { IfOk result (HasIdentity self.now.bytes) }
         ensures refused { IfErr result (FailsIdentity self.now.bytes) }

@@ -15,8 +15,8 @@ pub record Map : Type 0 where
   pub to_internal : Option (List OMAPRecord)
   pub to_image : Option (List OMAPRecord)
 
--- With original sections these are the internal ones. Without them both lists are the image's, and
--- no map is used.
+-- With original sections the internal sections are these. Without them both lists are the image's,
+-- and no map is used.
 abbrev pub map_of : Option (List ImageSectionHeader) → List ImageSectionHeader
     → Option (List OMAPRecord) → Option (List OMAPRecord) → Map
 map_of None image to_internal to_image =

@@ -9,7 +9,7 @@ use Rattle.std.specs.declared.cmp.Ordering.TheVariants.{Less, Equal}
 use Rattle.std.specs.Ordering.{nat_cmp, ordering_reverse}
 use Rattle.pdb_addresses.specs.Places.{compared}
 
--- where two places compare, their sections are one
+-- two places that compare are in one section
 answered : (b : Bool) (r : Option Ordering) (o : Ordering) → cond b r None ≡ Some o
     → (b ≡ true) × (r ≡ Some o)
 answered true r o e = (refl, e)

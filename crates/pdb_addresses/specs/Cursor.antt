@@ -1,4 +1,4 @@
--- Where a walk over a map stands, and its steps.
+-- The state of a walk over a map, and its steps.
 use Rattle.std.specs.Prelude.{◌≡◌, ℕ, ◌+◌, ◌-◌, ◌^◌, ◌≤◌, min, List, [], ◌∷◌, length, nat_lt}
 use Rattle.std.specs.Prelude.{Option, None, Some, option_map, option_and_then, slice_get}
 use Rattle.std.specs.Prelude.{if◌then◌else◌}
@@ -28,7 +28,7 @@ pub record IsSteady (omap : Option (List OMAPRecord)) (number address : ℕ) : T
   pub ordered : IsInOrder omap
   pub at : IsAt omap number address
 
--- how many records and addresses are left
+-- the number of records that are left
 abbrev pub left_of : Option (List OMAPRecord) → ℕ → ℕ
 left_of None number = 0
 left_of (Some records) number = length records - number
@@ -38,15 +38,15 @@ abbrev pub next_source : Option (List OMAPRecord) → ℕ → Option ℕ
 next_source None number = None
 next_source (Some records) number = option_map source (slice_get records number)
 
--- that source, where it lies before an address
+-- the source of the next record, where it lies before an address
 abbrev pub source_before : Option (List OMAPRecord) → ℕ → ℕ → Option ℕ
 source_before omap number end = option_and_then (below end) (next_source omap number)
 
--- what so many addresses further becomes by the same record, where the first becomes that
+-- the address that so many addresses further becomes by the same record, from that of the first
 abbrev pub sent_along : Option ℕ → ℕ → Option ℕ
 sent_along first k = option_and_then (λ x. in_32_bits (x + k)) first
 
--- what an address becomes by the record with that index
+-- the address that an address becomes by the record with that index
 abbrev pub sent_by_number : Option (List OMAPRecord) → ℕ → ℕ → Option ℕ
 sent_by_number None number address = Some address
 sent_by_number (Some records) number address =
@@ -59,7 +59,7 @@ cut_run bound count start =
     then Some (record { start = start; end = min (start + count) bound })
     else None
 
--- what the addresses from one on and before another become by the record with that index
+-- the addresses that those from one on and before another become by the record with that index
 abbrev pub run_between : Option (List OMAPRecord) → ℕ → ℕ → ℕ → Option (Range ℕ)
 run_between omap number from stop = option_and_then (cut_run (2 ^ 32 - 1) (stop - from))
     (sent_by_number omap number from)
@@ -70,7 +70,7 @@ run_in_front number None others = others
 run_in_front number (Some r) others =
     record { number = number; start = r.start; end = r.end } ∷ others
 
--- the next run, and what comes after it
+-- the next run, and the runs after it
 abbrev pub GivesRun : List TranslatedRun → Option (Range ℕ) → List TranslatedRun → Type 0
 GivesRun due None left = (due ≡ []) × (left ≡ [])
 GivesRun due (Some r) left = (number : ℕ) × (due ≡ run_in_front number (Some r) left)

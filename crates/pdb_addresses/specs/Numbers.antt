@@ -7,11 +7,11 @@ use Rattle.pdb_addresses.specs.declared.internal_rva.PdbInternalRva.{PdbInternal
 abbrev pub in_32_bits : ℕ → Option ℕ
 in_32_bits n = if nat_lt n (2 ^ 32) then Some n else None
 
--- how far a number lies past another one, if it lies no lower
+-- the distance of a number past another one, if it lies no lower
 abbrev pub distance : ℕ → ℕ → Option ℕ
 distance from to = if nat_lt to from then None else Some (to - from)
 
--- that distance around the end of 32 bits
+-- the distance of a number past another one, around the end of 32 bits
 abbrev pub distance_around : ℕ → ℕ → ℕ
 distance_around from to = (to + (2 ^ 32 - from)) % 2 ^ 32
 

@@ -24,7 +24,7 @@ omap_of bytes = do
   whole ← refuse (not (length bytes % 8 == 0)) (InvalidStreamLength (codes "OMAP"))
   entries omap_record_at bytes
 
--- the source of an OMAP record: the address from which on it counts
+-- the source of an OMAP record: the first address for which it counts
 abbrev pub source : OMAPRecord → ℕ
 source r = r.source_address
 
@@ -57,13 +57,13 @@ last_number (r ∷ records) address = record_number (if nat_le r.source_address 
 abbrev pub record_at : List OMAPRecord → ℕ → Option OMAPRecord
 record_at records number = if number == 0 then None else slice_get records (number - 1)
 
--- where a record sends an address at or past its source: target 0 sends it nowhere
+-- the address to which a record sends an address at or past its source: target 0 sends it nowhere
 abbrev pub sent_by : ℕ → OMAPRecord → Option ℕ
 sent_by address r =
     if r.target_address == 0 then None
     else in_32_bits (r.target_address + (address - r.source_address))
 
--- where a map sends an address: by the last record with source at most it
+-- the address to which a map sends an address: by the last record with source at most it
 abbrev pub sent : List OMAPRecord → ℕ → Option ℕ
 sent records address = option_and_then (sent_by address)
     (record_at records (last_number records address))

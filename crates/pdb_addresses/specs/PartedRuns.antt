@@ -9,18 +9,18 @@ abbrev pub laid_out : List TranslatedRun → List ℕ
 laid_out [] = []
 laid_out (r ∷ runs) = range_with_len r.start (r.end - r.start) ++ laid_out runs
 
--- one more before them, if there is one
+-- one more address before others, if there is one
 abbrev pub with_first : Option ℕ → List ℕ → List ℕ
 with_first None others = others
 with_first (Some n) others = n ∷ others
 
--- what that many addresses from one on become, each by itself
+-- the addresses that so many addresses from one on become, each by itself
 unfoldable pub each_for_itself : (ℕ → Option ℕ) → ℕ → ℕ → List ℕ
 each_for_itself becomes from zero = []
 each_for_itself becomes from (suc count) =
     with_first (becomes from) (each_for_itself becomes (from + 1) count)
 
--- what the addresses of a range become, each for itself
+-- the addresses that those of a range become, each for itself
 abbrev pub one_by_one : Option (List OMAPRecord) → ℕ → ℕ → List ℕ
 one_by_one omap start end = each_for_itself (kept omap) start (end - start)
 

@@ -1,4 +1,4 @@
--- Ranges of addresses, and what they become.
+-- Ranges of addresses, and the ranges that they become.
 use Rattle.std.specs.Prelude.{◌≡◌, ℕ, zero, suc, ◌+◌, ◌-◌, ◌^◌, List, [], ◌∷◌, map, nat_lt, ◌==◌}
 use Rattle.std.specs.Prelude.{Option, None, Some, option_and_then, if◌then◌else◌}
 use Rattle.std.specs.declared.ops.Range.{Range}
@@ -17,19 +17,19 @@ number_for (Some records) address = last_number records address
 abbrev pub below : ℕ → ℕ → Option ℕ
 below bound n = if nat_lt n bound then Some n else None
 
--- what an address becomes in a range: one that becomes 0xffffffff is left out, as one that is sent
--- nowhere
+-- the address that an address of a range becomes: 0xffffffff is left out, as is an address that is
+-- sent nowhere
 abbrev pub kept : Option (List OMAPRecord) → ℕ → Option ℕ
 kept omap address = option_and_then (below (2 ^ 32 - 1)) (translated omap address)
 
--- what consecutive addresses became, all by the record with that index
+-- consecutive addresses that others became, all by the record with that index
 pub record TranslatedRun : Type 0 where
   pub number : ℕ
   pub start : ℕ
   pub end : ℕ
 
--- One more address before them: it goes into the first run if that came by the same record, else it
--- is a run of its own.
+-- One more address before runs: it goes into the first run if that came by the same record;
+-- otherwise it is a run of its own.
 abbrev pub with_address : ℕ → Option ℕ → List TranslatedRun → List TranslatedRun
 with_address number None runs = runs
 with_address number (Some n) [] = record { number = number; start = n; end = n + 1 } ∷ []
@@ -37,14 +37,14 @@ with_address number (Some n) (r ∷ runs) =
     if number == r.number then record { number = number; start = n; end = r.end } ∷ runs
     else record { number = number; start = n; end = n + 1 } ∷ r ∷ runs
 
--- what that many addresses from one on become, where each goes by a record and becomes something or
--- nothing
+-- the runs that so many addresses from one on become, where each goes by a record and becomes
+-- something or nothing
 unfoldable pub runs_by : (ℕ → ℕ) → (ℕ → Option ℕ) → ℕ → ℕ → List TranslatedRun
 runs_by number becomes from zero = []
 runs_by number becomes from (suc count) =
     with_address (number from) (becomes from) (runs_by number becomes (from + 1) count)
 
--- what the addresses of a range become, address by address, those that go by one record in one run
+-- the runs that a range becomes, address by address, all addresses that go by one record in one run
 abbrev pub runs : Option (List OMAPRecord) → ℕ → ℕ → List TranslatedRun
 runs omap start end = runs_by (number_for omap) (kept omap) start (end - start)
 
@@ -64,7 +64,7 @@ image_ranges omap start end = map image_range (runs omap start end)
 abbrev pub internal_ranges : Option (List OMAPRecord) → ℕ → ℕ → List (Range PdbInternalRva)
 internal_ranges omap start end = map internal_range (runs omap start end)
 
--- what is still to come, the next of it, and what comes after that
+-- the values still to come, the next of them, and the values after it
 abbrev pub GivesNext : {A : Type 0} → List A → Option A → List A → Type 0
 GivesNext due None left = (due ≡ []) × (left ≡ [])
 GivesNext due (Some next) left = due ≡ next ∷ left

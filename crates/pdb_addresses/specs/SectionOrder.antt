@@ -1,10 +1,10 @@
--- What is stored of sections, in any order, so that binary search finds what concerns an address.
+-- The stored bounds of sections in any order, by which binary search finds the place of an address.
 use Rattle.std.specs.Prelude.{◌≡◌, ℕ, ◌+◌, max, List, [], ◌∷◌}
 use Rattle.std.specs.List.Sorted.{IsPermutation, IsNonDecreasing}
 use Rattle.pdb_addresses.specs.declared.sections.ImageSectionHeader.{ImageSectionHeader}
 use Rattle.pdb_addresses.specs.SectionRun.{bounds}
 
--- where a section ends, which can lie past 32 bits
+-- the end of a section, which can lie past 32 bits
 abbrev pub end_of : ImageSectionHeader → ℕ
 end_of s = s.virtual_address + s.virtual_size
 
@@ -18,7 +18,7 @@ pub record AreInOrder (numbers ascending : List ℕ) : Type 0 where
   pub same : IsPermutation numbers ascending
   pub rise : IsNonDecreasing ascending
 
--- what is stored of sections: the greatest end up to each one, and where all start and end, in
+-- the stored bounds of sections: the greatest end up to each section, and all starts and ends, in
 -- ascending order
 pub record AreKept (sections : List ImageSectionHeader) (greatest ascending : List ℕ) : Type 0 where
   pub ends : greatest ≡ greatest_ends 0 sections

@@ -1,11 +1,11 @@
--- How far the place of an address goes on.
+-- The number of bytes for which the place of an address goes on.
 use Rattle.std.specs.Prelude.{ℕ, ◌+◌, ◌-◌, min, Bool, ◌==◌, List, [], ◌∷◌, nat_lt, Option, None}
 use Rattle.std.specs.Prelude.{Some, if◌then◌else◌}
 use Rattle.std.specs.List.{list_any}
 use Rattle.pdb_addresses.specs.declared.sections.ImageSectionHeader.{ImageSectionHeader}
 use Rattle.pdb_addresses.specs.Places.{Place}
 
--- where sections start and end
+-- the starts and ends of sections
 abbrev pub bounds : List ImageSectionHeader → List ℕ
 bounds [] = []
 bounds (s ∷ sections) = s.virtual_address ∷ (s.virtual_address + s.virtual_size) ∷ bounds sections

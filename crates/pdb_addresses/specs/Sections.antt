@@ -11,7 +11,7 @@ use Rattle.pdb_addresses.specs.declared.sections.SectionCharacteristics.{Section
 use Rattle.pdb_addresses.specs.Numbers.{in_32_bits}
 use Rattle.pdb_addresses.specs.Places.{Place}
 
--- what a section header says, by the places of its numbers
+-- a section header, by the places of its numbers
 abbrev pub header_in : List ℕ → ImageSectionHeader
 header_in bytes = record {
   name = take 8 bytes;

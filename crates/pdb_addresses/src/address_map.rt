@@ -154,7 +154,7 @@ fn is_in_order(omap: Option<&[OMAPRecord]>) -> bool
     }
 }
 
-/// What an address becomes; itself without a map.
+/// The address that an address becomes; itself without a map.
 fn translate(omap: Option<&[OMAPRecord]>, address: u32) -> Option<u32>
     requires { IsInOrder (records_of omap) }
     ensures { result ≡ translated (records_of omap.entry) address }

@@ -65,21 +65,21 @@ impl PdbInternalRva {
         PdbInternalRva(self.0.wrapping_add(offset))
     }
 
-    /// How many bytes it lies past another address; `None` where it lies below.
+    /// Its distance in bytes past another address; `None` where it lies below.
     pub fn checked_sub(self, other: PdbInternalRva) -> Option<u32>
         ensures { result ≡ distance other.0 self.0 }
     {
         self.0.checked_sub(other.0)
     }
 
-    /// How many bytes it lies past another address; 0 where it lies below.
+    /// Its distance in bytes past another address; 0 where it lies below.
     pub fn saturating_sub(self, other: PdbInternalRva) -> u32
         ensures { result ≡ self.0 - other.0 }
     {
         self.0.saturating_sub(other.0)
     }
 
-    /// How many bytes it lies past another address, going on from 0 past 0xffffffff.
+    /// Its distance in bytes past another address, going on from 0 past 0xffffffff.
     pub fn wrapping_sub(self, other: PdbInternalRva) -> u32
         ensures { result ≡ distance_around other.0 self.0 }
     {

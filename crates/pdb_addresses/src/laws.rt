@@ -26,7 +26,7 @@ use crate::rva::Rva;
 use crate::section_offset::SectionOffset;
 use std::hash::Hash;
 
-/// Where there is no map in a direction, addresses keep their numbers in that direction.
+/// Addresses keep their numbers in a direction without a map.
 pub fn without_maps()
     ensures inward { (m : Map) (a : ℕ) → m.to_internal ≡ None → inner m a ≡ Some a }
     ensures outward { (m : Map) (a : ℕ) → m.to_image ≡ None → outer m a ≡ Some a }
@@ -45,9 +45,9 @@ pub fn place_and_back()
         → address sections p.section p.offset ≡ Some a }
 {}
 
-/// The ranges that a range becomes, laid end to end, are what its addresses become one by one, in
-/// order, without those that become nothing or 0xffffffff; and no two neighbors among them came by
-/// one record. It holds of every map, and where there is none.
+/// The ranges that a range becomes, laid end to end, are the results of its addresses one by one,
+/// in order, without those that become nothing or 0xffffffff; and no two neighbors among them came
+/// by one record. This holds of every map, and where there is none.
 pub fn ranges_laid_end_to_end()
     ensures one_by_one { (omap : Option (List Record)) (start end : ℕ)
         → laid_out (runs omap start end) ≡ one_by_one omap start end }

@@ -16,8 +16,8 @@ use std::alloc::Global;
 pub struct OMAPRecord {
     /// The source: the first address that goes by the record.
     pub source_address: u32,
-    /// The target: what that address becomes; 0 where addresses that go by the record become
-    /// nothing.
+    /// The target: the address that the source becomes; 0 where addresses that go by the record
+    /// become nothing.
     pub target_address: u32,
 }
 
@@ -76,7 +76,8 @@ pub(crate) fn last_number(records: &[OMAPRecord], address: u32) -> usize
     records.partition_point(|record| record.source_address <= address)
 }
 
-/// Where a record sends an address at or past its source; `None` at target 0, and past 32 bits.
+/// The address to which a record sends an address at or past its source; `None` at target 0, and
+/// past 32 bits.
 pub(crate) fn sent_by(entry: OMAPRecord, address: u32) -> Option<u32>
     requires { entry.source_address ≤ address }
     ensures { result ≡ sent_by_record address entry }
@@ -89,7 +90,7 @@ pub(crate) fn sent_by(entry: OMAPRecord, address: u32) -> Option<u32>
         .checked_add(address - entry.source_address)
 }
 
-/// Where a map sends an address: by the last record with source at most it.
+/// The address to which a map sends an address: by the last record with source at most it.
 #[tactic(auto, using(crate::proofs::OmapLemmas::sent_nowhere, crate::proofs::OmapLemmas::sent_somewhere))]
 pub(crate) fn lookup(records: &[OMAPRecord], address: u32) -> Option<u32>
     requires { AreSourcesInOrder records.now }

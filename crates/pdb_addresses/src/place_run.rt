@@ -1,4 +1,4 @@
-//! Over how many addresses places follow one another.
+//! The number of addresses over which places follow one another.
 
 ghost use Rattle.std.specs.Prelude.{◌≡◌, ◌≢◌, ℕ, ◌+◌, ◌-◌, ◌^◌, ◌<◌, ◌≤◌, true, Some, IfSome};
 ghost use Rattle.std.specs.Prelude.{option_map};
@@ -14,10 +14,10 @@ use crate::ranges::record_run;
 use crate::rva::Rva;
 
 impl<'s> AddressMap<'s> {
-    /// The internal place of an address, if it has one, and over how many addresses from there on
-    /// and before `end` places follow one another, or are missing. Such addresses go by one record
-    /// of the OMAP, and become internal addresses between which no section starts or ends, or all
-    /// become nothing. An address that becomes 0xffffffff is alone.
+    /// The internal place of an address, if it has one, and the number of addresses from there on
+    /// and before `end` over which places follow one another, or are missing. Such addresses go by
+    /// one record of the OMAP, and become internal addresses between which no section starts or
+    /// ends, or all become nothing. An address that becomes 0xffffffff is alone.
     pub fn place_run(&self, address: Rva, end: Rva) -> (Option<PdbInternalSectionOffset>, u32)
         requires ordered { IsOrdered self.now }
         requires some { address.0 < end.0 }

@@ -1,4 +1,4 @@
-//! Ranges of addresses, and what they become.
+//! Ranges of addresses, and the ranges that they become.
 
 ghost use Rattle.std.specs.Prelude.{◌≡◌, ℕ, ◌+◌, ◌-◌, ◌<◌, ◌≤◌, true, length, option_map};
 ghost use Rattle.std.specs.Prelude.{option_and_then, slice_get};
@@ -21,14 +21,14 @@ use crate::rva::Rva;
 use std::marker::Model;
 use std::ops::Range;
 
-/// Where a walk over a map stands: `number` records were passed, and `address` comes next.
+/// The state of a walk over a map: `number` records were passed, and `address` comes next.
 #[derive(Clone, Copy, Debug)]
 pub(crate) struct Cursor {
     number: usize,
     address: u32,
 }
 
-/// Where a walk begins at an address.
+/// The cursor of a walk that begins at an address.
 fn cursor_at(omap: Option<&[OMAPRecord]>, address: u32) -> Cursor
     requires { IsInOrder (records_of omap) }
     ensures at { IsAt (records_of omap.entry) result.number result.address }
@@ -52,7 +52,7 @@ fn next_source(omap: Option<&[OMAPRecord]>, number: usize) -> Option<u32>
     }
 }
 
-/// That source, where it lies before an address.
+/// The source of the record after the cursor, where it lies before an address.
 fn source_before(omap: Option<&[OMAPRecord]>, number: usize, end: u32) -> Option<u32>
     ensures { result ≡ source_before_of (records_of omap.entry) number end }
 {
@@ -71,7 +71,8 @@ fn source_at(records: &[OMAPRecord], number: usize) -> Option<u32>
     }
 }
 
-/// What an address becomes by the record with that index, counted from 1.
+/// The address that the cursor's address becomes by the record with the cursor's number, counted
+/// from 1.
 fn sent(omap: Option<&[OMAPRecord]>, at: Cursor) -> Option<u32>
     requires { IsAt (records_of omap) at.number at.address }
     ensures { result ≡ sent_by_number (records_of omap.entry) at.number at.address }
@@ -94,7 +95,7 @@ fn sent_in(records: &[OMAPRecord], at: Cursor) -> Option<u32>
     sent_by(records[at.number - 1], at.address)
 }
 
-/// What the addresses from a cursor's on and before another become, up to 0xfffffffe.
+/// The addresses that those from a cursor's on and before another become, up to 0xfffffffe.
 fn run_between(omap: Option<&[OMAPRecord]>, at: Cursor, stop: u32) -> Option<Range<u32>>
     requires at { IsAt (records_of omap) at.number at.address }
     requires order { at.address ≤ stop }
@@ -105,7 +106,7 @@ fn run_between(omap: Option<&[OMAPRecord]>, at: Cursor, stop: u32) -> Option<Ran
     if start < end { Some(start..end) } else { None }
 }
 
-/// What the addresses of the cursor's record before `end` become, and where the walk goes on.
+/// The addresses that those of the cursor's record before `end` become, and the next cursor.
 #[tactic(auto, using(crate::proofs::RangeSteps::up_to_source, crate::proofs::RangeSteps::up_to_end, crate::proofs::RangeSteps::at_source, crate::proofs::RangeSteps::at_end, crate::proofs::RangeSteps::on_to_source))]
 fn step(omap: Option<&[OMAPRecord]>, at: Cursor, end: u32) -> (Option<Range<u32>>, Cursor)
     requires order { IsInOrder (records_of omap) }
@@ -136,7 +137,7 @@ fn step(omap: Option<&[OMAPRecord]>, at: Cursor, end: u32) -> (Option<Range<u32>
     }
 }
 
-/// The next run before `end`, and where the walk goes on.
+/// The next run before `end`, and the cursor after it.
 fn find(omap: Option<&[OMAPRecord]>, at: Cursor, end: u32) -> (Option<Range<u32>>, Cursor)
     requires order { IsInOrder (records_of omap) }
     requires at { IsAt (records_of omap) at.number at.address }
@@ -155,8 +156,8 @@ fn find(omap: Option<&[OMAPRecord]>, at: Cursor, end: u32) -> (Option<Range<u32>
     (None, cursor)
 }
 
-/// What an address becomes, and over how many addresses from there on and before `end` addresses go
-/// by its record.
+/// The address that an address becomes, and the number of addresses from there on and before `end`
+/// that go by its record.
 pub(crate) fn record_run(omap: Option<&[OMAPRecord]>, address: u32, end: u32) -> (Option<u32>, u32)
     requires order { IsInOrder (records_of omap) }
     requires some { address < end }
@@ -215,9 +216,9 @@ impl<'t> RangeIter<'t> {
     }
 }
 
-/// What a range of internal RVAs becomes in the image, in the order of the range: one range for all
-/// addresses that go by one record. Addresses that become nothing are left out, and those that
-/// become 0xffffffff.
+/// The ranges that a range of internal RVAs becomes in the image, in the order of the range: one
+/// range for all addresses that go by one record. Addresses that become nothing are left out, and
+/// those that become 0xffffffff.
 #[derive(Debug, Drop)]
 pub struct RvaRangeIter<'t>(RangeIter<'t>);
 
@@ -245,9 +246,9 @@ impl<'t> Iterator for RvaRangeIter<'t> {
     }
 }
 
-/// What a range of RVAs becomes among the internal ones, in the order of the range: one range for
-/// all addresses that go by one record. Addresses that become nothing are left out, and those that
-/// become 0xffffffff.
+/// The ranges that a range of RVAs becomes among the internal ones, in the order of the range: one
+/// range for all addresses that go by one record. Addresses that become nothing are left out, and
+/// those that become 0xffffffff.
 #[derive(Debug, Drop)]
 pub struct PdbInternalRvaRangeIter<'t>(RangeIter<'t>);
 
@@ -278,7 +279,7 @@ impl<'t> Iterator for PdbInternalRvaRangeIter<'t> {
 }
 
 impl<'s> AddressMap<'s> {
-    /// What a range of internal addresses becomes in the image.
+    /// The ranges that a range of internal addresses becomes in the image.
     pub fn rva_ranges(&self, range: Range<PdbInternalRva>) -> RvaRangeIter<'_>
         requires { IsOrdered self.now }
         ensures { result ≡ image_ranges self.now.to_image range.start.0 range.end.0 }
@@ -286,7 +287,7 @@ impl<'s> AddressMap<'s> {
         RvaRangeIter(RangeIter::new(self.to_image(), range.start.0..range.end.0))
     }
 
-    /// What a range of addresses of the image becomes among the internal ones.
+    /// The ranges that a range of addresses of the image becomes among the internal ones.
     pub fn internal_rva_ranges(&self, range: Range<Rva>) -> PdbInternalRvaRangeIter<'_>
         requires { IsOrdered self.now }
         ensures { result ≡ internal_ranges self.now.to_internal range.start.0 range.end.0 }

@@ -16,8 +16,8 @@ use std::alloc::{AllocError, Global};
 use std::marker::Model;
 
 /// The sections of a space, in any order. Two lists are stored beside them, so that binary search
-/// finds what concerns an address: the greatest end of the sections up to each one, and where
-/// sections start and end, in ascending order.
+/// finds what concerns an address: the greatest end of the sections up to each one, and the starts
+/// and ends of sections, in ascending order.
 #[derive(Debug, Drop)]
 pub(crate) struct SectionList {
     headers: Vec<ImageSectionHeader>,
@@ -105,7 +105,7 @@ pub(crate) fn internal(place: Option<SectionOffset>) -> Option<PdbInternalSectio
     }
 }
 
-/// Where a section ends, which can lie past 32 bits.
+/// The end of a section, which can lie past 32 bits.
 fn end_of(section: &ImageSectionHeader) -> u64
     ensures { result ≡ end_of_section section.now }
 {
@@ -126,7 +126,7 @@ fn greatest_ends(alloc: Global, sections: &[ImageSectionHeader]) -> Result<Vec<u
     Ok(ends)
 }
 
-/// Where sections start and end, in ascending order.
+/// The starts and ends of sections, in ascending order.
 #[tactic(auto, using(crate::proofs::RunSteps::bounds_more))]
 fn bounds_in_order(alloc: Global, sections: &[ImageSectionHeader]) -> Result<Vec<u64>, AllocError>
     ensures { IfOk result (λ v. AreInOrder (bounds sections.now) v.items) }
@@ -140,7 +140,7 @@ fn bounds_in_order(alloc: Global, sections: &[ImageSectionHeader]) -> Result<Vec
     Ok(bounds)
 }
 
-/// How many numbers, which don't fall, lie at or below an address. It is a binary search.
+/// The count of the numbers, which don't fall, at or below an address. It is a binary search.
 fn passed(numbers: &[u64], address: u32) -> usize
     requires { IsNonDecreasing numbers.now }
     ensures bound { result ≤ length numbers.now }
@@ -151,8 +151,8 @@ fn passed(numbers: &[u64], address: u32) -> usize
 }
 
 /// The place of an address. No section before the first one whose greatest end lies past the
-/// address holds it, and that one ends there: it holds the address exactly if it begins at or below
-/// it.
+/// address holds it, and that greatest end is the section's own: the section holds the address
+/// exactly if it begins at or below it.
 fn place_among(sections: &[ImageSectionHeader], ends: &[u64], address: u32) -> Option<SectionOffset>
     requires { ends.now ≡ greatest_ends_from 0 sections.now }
     ensures { result ≡ option_map image_place (place_of sections.now address) }

@@ -16,7 +16,7 @@ use std::cmp::Ordering;
 /// and an offset in it in bytes.
 #[derive(Clone, Copy, Debug, Default, PartialEq, Eq, Hash)]
 pub struct SectionOffset {
-    /// In bytes from the section's start.
+    /// The offset in bytes from the section's start.
     pub offset: u32,
     /// The section's number, counted from 1.
     pub section: u16,

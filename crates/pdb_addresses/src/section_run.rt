@@ -1,4 +1,4 @@
-//! How far the place of an address goes on.
+//! The number of bytes for which the place of an address goes on.
 
 ghost use Rattle.std.specs.Prelude.{◌≡◌, ℕ, ◌+◌, ◌^◌, ◌<◌, ◌≤◌, option_map};
 ghost use Rattle.pdb_addresses.specs.Places.{internal_place as in_internal_space};
@@ -11,10 +11,10 @@ use crate::internal_section_offset::PdbInternalSectionOffset;
 use crate::section_list::internal;
 
 impl<'s> AddressMap<'s> {
-    /// The place of an internal address, and over how many addresses from it on places go on as
-    /// they begin: one by one in the same section, or none at all. The count, in bytes, ends at the
-    /// next start or end of an internal section past the address, and is at most `limit`, which is
-    /// at least 1 and leads no further than to the end of 32 bits.
+    /// The place of an internal address, and the number of bytes from it on over which places go on
+    /// as they begin: one by one in the same section, or none at all. The count ends at the next
+    /// start or end of an internal section past the address, and is at most `limit`, which is at
+    /// least 1 and leads no further than to the end of 32 bits.
     #[tactic(auto, using(crate::proofs::PlaceSteps::place_inside, crate::proofs::RunSteps::run_is_some, crate::proofs::RunSteps::places_go_on))]
     pub fn section_run(
         &self,

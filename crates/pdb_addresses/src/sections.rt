@@ -9,7 +9,7 @@ ghost use Rattle.pdb_addresses.specs.Sections.{text_before_nul, may_execute};
 use pdb_container::{FromBuffer, ParseBuffer, Result, half_at, nul_in, parse_entries, word_at};
 use std::alloc::Global;
 
-/// Section characteristics: what may be done in a section.
+/// Section characteristics: the rights in a section.
 #[derive(Clone, Copy, Debug, Default, PartialEq, Eq)]
 pub struct SectionCharacteristics(pub u32);
 
@@ -22,7 +22,7 @@ impl SectionCharacteristics {
     }
 }
 
-/// A section header: what the PE format says of a section.
+/// A section header of the PE format.
 #[derive(Clone, Copy, Debug, Default, PartialEq, Eq)]
 pub struct ImageSectionHeader {
     /// The name, filled up with NULs.
@@ -33,17 +33,17 @@ pub struct ImageSectionHeader {
     pub virtual_address: u32,
     /// The size in the image's file, in bytes.
     pub size_of_raw_data: u32,
-    /// Where it begins in the image's file, in bytes.
+    /// The start of its bytes in the image's file, in bytes.
     pub pointer_to_raw_data: u32,
-    /// Where its relocations begin in the image's file, in bytes.
+    /// The start of its relocations in the image's file, in bytes.
     pub pointer_to_relocations: u32,
-    /// Where its line numbers begin in the image's file, in bytes.
+    /// The start of its line numbers in the image's file, in bytes.
     pub pointer_to_line_numbers: u32,
-    /// How many relocations it has.
+    /// The number of its relocations.
     pub number_of_relocations: u16,
-    /// How many line numbers it has.
+    /// The number of its line numbers.
     pub number_of_line_numbers: u16,
-    /// What may be done in it.
+    /// The rights in the section.
     pub characteristics: SectionCharacteristics,
 }
 
@@ -59,7 +59,7 @@ impl FromBuffer for ImageSectionHeader {
     }
 }
 
-/// What the 40 bytes of a section header say.
+/// The section header that its 40 bytes spell.
 fn header_in(bytes: &[u8]) -> ImageSectionHeader
     requires { 40 ≤ length bytes.now }
     ensures { result ≡ header_of bytes.now }

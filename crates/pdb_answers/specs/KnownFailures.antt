@@ -1,4 +1,4 @@
--- What is known of functions that were asked for and whose frames can't be read.
+-- The failures known of functions that were asked for and whose frames can't be read.
 use Rattle.std.specs.Prelude.{◌≡◌, ℕ, Option, Some, IfSome}
 use Rattle.std.specs.BTreeMap.{get}
 use Rattle.std.specs.Ordering.{nat_cmp}
@@ -27,8 +27,8 @@ pub record IsProcedure (q : Procedure) (at : PdbInternalSectionOffset) (first la
   pub symbol : q.symbol_index ≡ first
   pub end : q.end_symbol_index ≡ last
 
--- A chosen function is one of those: any one of the module, the procedure with a start and symbols,
--- the public entry of a place.
+-- A chosen function is among the functions asked for: any one of the module, the procedure with a
+-- start and symbols, the public entry of a place.
 abbrev pub IsAbout : Asked → Chosen → Type 0
 IsAbout asked.Module c = Unit {0}
 IsAbout (asked.Procedure start symbol end) (Proc q) = IsProcedure q start symbol end
@@ -36,42 +36,42 @@ IsAbout (asked.Procedure start symbol end) (Public f) = ⊥
 IsAbout (asked.Public start) (Proc q) = ⊥
 IsAbout (asked.Public start) (Public f) = f.start_offset ≡ start
 
--- the functions like a chosen one: those of its start and its symbols
+-- the functions like a chosen one: those of the same start and symbols
 abbrev pub those_like : Chosen → Asked
 those_like (Proc q) = asked.Procedure q.offset q.symbol_index q.end_symbol_index
 those_like (Public f) = asked.Public f.start_offset
 
--- the functions in which a part fails that fails in a chosen one: where that is line program and
--- inlinees, all of the module
+-- the functions in which a part fails that fails in a chosen one: where the part is line program
+-- and inlinees, all of the module
 abbrev pub those_failing : Chosen → Part → Asked
 those_failing c (parts.ExtendedModule m) = asked.Module
 those_failing c (parts.ProcedureLines m start) = those_like c
 those_failing c (parts.ProcedureInlineRanges m start) = those_like c
 
--- The part is the first that can't be read in each function that this is about, by the data of
--- modules.
+-- The part is the first that can't be read in each function that the failure is about, from the
+-- data of modules.
 pub record IsFailureOf (own : ℕ → Option ModuleData) (known : KnownFailure) : Type 0 where
   pub each : (c : Chosen) → IsAbout known.asked c
       → failing_in known.module_index (own known.module_index) c ≡ Some known.part
 
--- All that is known is so.
+-- All known failures are true.
 pub record AreFailuresOf (own : ℕ → Option ModuleData) (known : KnownFailures) : Type 0 where
   pub each : (n : ℕ) (one : KnownFailure) → get nat_cmp known.by_number n ≡ Some one
       → IsFailureOf own one
 
 -- A part, if one is given, is the first that can't be read in a chosen function of the module with
--- that index, where all that is known is so.
+-- that index, where all known failures are true.
 abbrev pub IsKnownIn : KnownFailures → ℕ → Chosen → Option Part → Type 0
 IsKnownIn known m c result = (own : ℕ → Option ModuleData) → AreFailuresOf own known
     → IfSome result (λ part. failing_in m (own m) c ≡ Some part)
 
--- What is known stays so, where this part is the first that can't be read in a chosen function of
+-- Known failures stay true, where this part is the first that can't be read in a chosen function of
 -- the module with that index.
 abbrev pub StayFailuresWith : ℕ → Chosen → Part → KnownFailures → KnownFailures → Type 0
 StayFailuresWith m c part old new = (own : ℕ → Option ModuleData)
     → failing_in m (own m) c ≡ Some part → AreFailuresOf own old → AreFailuresOf own new
 
--- the data of the module with that index, by what gives modules, and the list of modules
+-- the data of the module with that index, from the provider of modules, and the list of modules
 abbrev pub data_among : {P : Type 0} → (P → Provided) → P → Formatting P → ℕ → Option ModuleData
 data_among provided provider f n = module_data (own_of (provided provider) (entries_of f) n)
 

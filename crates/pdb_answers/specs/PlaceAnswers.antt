@@ -1,4 +1,4 @@
--- What a symbolizer answers at places.
+-- The answers of a symbolizer at places.
 use Rattle.std.specs.Prelude.{◌≡◌, ℕ, Option, Some, Result, Ok, IfOk, option_and_then}
 use Rattle.std.specs.Prelude.{option_copied}
 use Rattle.pdb_addresses.specs.declared.internal_section_offset.PdbInternalSectionOffset.{
@@ -64,7 +64,7 @@ abbrev pub frames_found : {P : Type 0} → (P → Provided) → Formatting P →
 frames_found provided f parts found = frames_of_chosen parts (env_of provided f found.module_index)
     found.known found.place (Some found.chosen)
 
--- the part of the module's data whose fault that is
+-- the part of the module's data that has the fault
 abbrev pub failing_found : Found → Option Part
 failing_found found = failing_in found.module_index found.known found.chosen
 
@@ -80,47 +80,46 @@ abbrev pub run_found : {P : Type 0} → (P → Provided) → Formatting P → Pa
 run_found provided f parts found far = run_of_answer (frames_found provided f parts found)
     (cuts_in found.known found.chosen) found.place far
 
--- A run is that of the file there: its key, and how far it goes on, or nothing up to there where
--- the function's start has no image address.
+-- A run is the file's there: its key, and how far it goes on, or nothing up to there where the
+-- function's start has no image address.
 abbrev pub RunsFile : {E : Type 0} → Parts → Option ModuleData → Chosen → Stretch
     → Result (Option FileKey × ℕ) E → Type 0
 RunsFile parts known c stretch result = IfOk result (λ run. run
     ≡ run_reported (start_address parts c) stretch.far
     (file_run_of known c stretch.place stretch.far))
 
--- Where what is known of parts that can't be read is so, by the data of the module with that index,
--- this is said.
+-- Where the known failures are true of the data of the module with that index, this is said.
 abbrev pub IfFailuresOf : ℕ → Option ModuleData → KnownFailures → Type 0 → Type 0
 IfFailuresOf number known failures P = (own : ℕ → Option ModuleData) → own number ≡ known
     → AreFailuresOf own failures → P
 
--- the same, where what is known of parts that can't be read is so
+-- the same, where the known failures are true
 abbrev pub RunsFileGiven : {E : Type 0} → Parts → KnownFailures → Option ModuleData
     → chosen.Chosen → Stretch → Result (Option FileKey × ℕ) E → Type 0
 RunsFileGiven parts failures known c stretch result =
     IfFailuresOf stretch.module_index known failures
     (RunsFile parts known (chosen_seen c) stretch result)
 
--- What is known of parts that can't be read stays so, by the data of the module with that index.
+-- Known failures stay true of the data of the module with that index.
 abbrev pub StayFailuresOf : ℕ → Option ModuleData → KnownFailures → KnownFailures → Type 0
 StayFailuresOf number known old new = (own : ℕ → Option ModuleData) → own number ≡ known
     → AreFailuresOf own old → AreFailuresOf own new
 
--- the same by the data of the module of a place, or of a stretch
+-- the same of the data of the module of a place, or of a stretch
 abbrev pub StayFailuresAt : Found → KnownFailures → KnownFailures → Type 0
 StayFailuresAt found old new = StayFailuresOf found.module_index found.known old new
 
 abbrev pub StayFailuresOver : Stretch → Option ModuleData → KnownFailures → KnownFailures → Type 0
 StayFailuresOver stretch known old new = StayFailuresOf stretch.module_index known old new
 
--- a call gave the function that was chosen, by what names it
+-- a call gave the function that was chosen, with its name from an Env
 abbrev pub AnswersFunction : Parts → Env → chosen.Chosen → Result (Option Function) Error → Type 0
 AnswersFunction parts env c result =
     Answers (λ f. f) result (Ok (function_of parts env (chosen_seen c)))
 
 -- ---- keys
 
--- what a key chooses, by the data of its module
+-- the function that a key chooses, from the data of its module
 abbrev pub chosen_by_key : Parts → Option ModuleData → FunctionKey → Option Chosen
 chosen_by_key parts known key = chosen_by parts (procedures_in known) key
 
@@ -130,7 +129,7 @@ abbrev pub IsKeyOfChosen : Parts → Option ModuleData → ModuleSectionContribu
 IsKeyOfChosen parts known held place key =
     option_and_then (chosen_by_key parts known) key ≡ chosen_in parts known held place
 
--- A call gave a key of this answer, by what keys stand for, and none for no answer. It gave a
+-- A call gave a key of this answer, from what keys stand for, and none for no answer. It gave a
 -- number, too, of which this says nothing.
 abbrev pub GivesKey : {K A : Type 0} → (K → Option A) → Option A → Result (Option K × ℕ) Error
     → Type 0
@@ -139,14 +138,14 @@ GivesKey answer_of answer result =
 
 -- ---- at a place that a contribution holds
 
--- how far a place is from the next at which a function begins or ends, up to a limit
+-- the distance from a place to the next at which a function begins or ends, up to a limit
 abbrev pub far_from : {P : Type 0} → (P → Provided) → Symbolizer P → ModuleSectionContribution
     → PdbInternalSectionOffset → ℕ → ℕ
 far_from provided s held place limit =
     up_to_next (bounds_near s.parts (procedures_of (scope_in provided s) (Some held)) place)
     place.offset limit
 
--- the frames, and the part whose fault that is
+-- the frames, and the part that has their fault
 abbrev pub frames_held : {P : Type 0} → (P → Provided) → Symbolizer P → ModuleSectionContribution
     → PdbInternalSectionOffset → Result (Option FunctionFrames) Fault
 frames_held provided s held place =
@@ -163,7 +162,7 @@ abbrev pub told_held : {P : Type 0} → (P → Provided) → Symbolizer P → Mo
 told_held provided s held place =
     told s.failed (failing_held provided s held place) (frames_held provided s held place)
 
--- what stands as failed after this answer
+-- the parts that stand as failed after this answer
 abbrev pub failed_held : {A P : Type 0} → (P → Provided) → Symbolizer P → ModuleSectionContribution
     → PdbInternalSectionOffset → Result A Error → Failures
 failed_held provided s held place result =
@@ -191,7 +190,7 @@ function_held provided s held place =
 
 -- ---- at a place
 
--- the part of a module's data whose fault the answer is
+-- the part of a module's data that has the answer's fault
 abbrev pub failing_on : {P : Type 0} → (P → Provided) → Symbolizer P → PdbInternalSectionOffset
     → Option Part
 failing_on provided s place =
@@ -243,7 +242,7 @@ frames_in provided s = frames_of_places s.parts (scope_in provided s)
 abbrev pub files_in : {P : Type 0} → (P → Provided) → Symbolizer P → Database FileAnswer
 files_in provided s = files_of s.parts (scope_in provided s)
 
--- what a call returned is with how many bytes the answer at a place goes on
+-- a call returned the number of bytes over which the answer at a place goes on
 abbrev pub IsRunOf : {A B : Type 0} → Database A → PdbInternalSectionOffset → ℕ
     → Result (B × ℕ) Error → Type 0
 IsRunOf places place limit result =

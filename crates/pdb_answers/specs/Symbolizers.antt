@@ -6,15 +6,15 @@ use Rattle.pdb_frames.specs.FailingParts.{Failures, no_failures}
 use Rattle.pdb_frames.specs.Printing.{Formatting}
 use Rattle.pdb_frames.specs.Scopes.{Scope, scope_of}
 
--- what gives modules, what every question goes over, what names are made of, and which parts of
--- modules stand as failed
+-- the provider of modules, the parts that every question goes over, the formatter of which names
+-- are made, and the parts of modules that stand as failed
 pub record Symbolizer (P : Type 0) : Type 0 where
   pub provider : P
   pub parts : Parts
   pub formatting : Formatting P
   pub failed : Failures
 
--- what no question changes: all but what stands as failed
+-- the part of a symbolizer that no question changes: all but what stands as failed
 abbrev pub lasting : {P : Type 0} → Symbolizer P → Symbolizer P
 lasting s = record {
   provider = s.provider;
@@ -23,7 +23,7 @@ lasting s = record {
   failed = no_failures;
 }
 
--- what an answer in the module with that index depends on
+-- all that an answer in the module with that index depends on
 abbrev pub scope_in : {P : Type 0} → (P → Provided) → Symbolizer P → ℕ → Scope
 scope_in provided s m = scope_of provided s.provider s.formatting m
 

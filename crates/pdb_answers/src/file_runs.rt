@@ -43,7 +43,7 @@ fn run_if_addressed(
     }
 }
 
-/// Remembers which part of a chosen function is the first that can't be read, if one can't.
+/// Stores the first part of a chosen function that can't be read, if there is one.
 pub(crate) fn keep_failure<I: ModuleTables>(
     alloc: Global,
     known_failures: &mut KnownFailures,
@@ -61,7 +61,7 @@ pub(crate) fn keep_failure<I: ModuleTables>(
 }
 
 /// Returns the run at a place in a chosen function, whose parts are read where they aren't cached.
-/// The part that can't be read, if one can't, is remembered for functions like this one.
+/// The part that can't be read, if there is one, is stored for functions like this one.
 fn read_run<I: ModuleTables>(
     alloc: Global,
     parts: &ContextParts<'_, '_>,
@@ -150,9 +150,9 @@ impl<'a, 's, P: ModuleProvider> PlaceSymbolizer<'a, 's, P> {
         )
     }
 
-    /// Returns a key of the file at a place, and how many bytes from there on have that file. That
-    /// is the lesser of `limit` and the distance to the next bound of functions or, where there are
-    /// frames, to the next line row of the place's function. No name is made, and nothing is
+    /// Returns a key of the file at a place, and the number of bytes from there on that have this
+    /// file: the lesser of `limit` and the distance to the next bound of functions or, where there
+    /// are frames, to the next line row of the place's function. No name is made, and nothing is
     /// counted as failed.
     ///
     /// # Errors
@@ -207,7 +207,7 @@ impl<'a, 's, P: ModuleProvider> PlaceSymbolizer<'a, 's, P> {
         }
     }
 
-    /// Returns the file at a place, and how many bytes from there on have that file, as
+    /// Returns the file at a place, and the number of bytes from there on that have this file, as
     /// [`PlaceSymbolizer::file_key_run`] counts them.
     ///
     /// # Errors

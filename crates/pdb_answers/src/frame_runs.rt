@@ -20,9 +20,9 @@ use pdb_owners::SharedFunctionFrames;
 use pdb_resolving::{Error, ModuleProvider, Result};
 use std::alloc::{AllocError, Global};
 
-/// Returns the frames at a place in a chosen function, and how far they go on, by parts that are
-/// read where they aren't cached. Where one can't be read there are no frames up to the next bound
-/// of functions, and the part is remembered for functions like this one.
+/// Returns the frames at a place in a chosen function, and how far they go on, from parts that are
+/// read where they aren't cached. Where a part can't be read there are no frames up to the next
+/// bound of functions, and the part is stored for functions like this one.
 fn read_run<'a, P: ModuleProvider>(
     alloc: Global,
     parts: &ContextParts<'a, '_>,
@@ -130,11 +130,11 @@ impl<'a, 's, P: ModuleProvider> PlaceSymbolizer<'a, 's, P> {
         )
     }
 
-    /// Returns the frames at a place, and how many bytes from there on have these frames. That is
+    /// Returns the frames at a place, and the number of bytes from there on that have these frames:
     /// the lesser of `limit` and the distance to the next bound of functions or, where there are
     /// frames, to the next place at which a line row of the function begins, or a row of one of its
-    /// inline sites begins or ends. There are none where they can't be read. Nothing is counted as
-    /// failed.
+    /// inline sites begins or ends. There are no frames where they can't be read. Nothing is
+    /// counted as failed.
     ///
     /// # Errors
     /// `OutOfMemory` alone.

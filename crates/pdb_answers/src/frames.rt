@@ -22,7 +22,7 @@ use pdb_resolving::{Error, ModuleProvider, ModuleTables, Result};
 use std::alloc::Global;
 
 /// A place in a chosen function, with the data of its module, and the first of the function's parts
-/// that can't be read, where that is known.
+/// that can't be read, where this part is known.
 #[derive(Drop)]
 pub(crate) struct ChosenPlace<'c, 'a, I: ModuleTables> {
     pub(crate) module_index: u16,
@@ -32,8 +32,8 @@ pub(crate) struct ChosenPlace<'c, 'a, I: ModuleTables> {
     pub(crate) place: PdbInternalSectionOffset,
 }
 
-/// Returns the frames at a place in a chosen function, if it has an RVA. Where it has none, its
-/// module's data are read all the same, but no frame is made.
+/// Returns the frames at a place in a chosen function, if the function has an RVA. Where it has
+/// none, its module's data are read all the same, but no frame is made.
 pub(crate) fn chosen_frames<'a, P: ModuleProvider>(
     alloc: Global,
     parts: &ContextParts<'a, '_>,
@@ -68,9 +68,9 @@ pub(crate) fn chosen_frames<'a, P: ModuleProvider>(
     }))
 }
 
-/// Returns the frames at a place in a chosen function, if it has an RVA. The part that can't be
-/// read, if one can't, stands as failed from then on: where it did before, that is reported. It is
-/// known from then on for the functions like the chosen one.
+/// Returns the frames at a place in a chosen function, if the function has an RVA. The part that
+/// can't be read, if there is one, stands as failed from then on: where it did before, this is
+/// reported. It is known from then on for the functions like the chosen one.
 #[tactic(auto, using(crate::proofs::FailedSteps::told_own, crate::proofs::FailedSteps::told_alone))]
 fn frames_told<'a, P: ModuleProvider>(
     alloc: Global,
@@ -184,7 +184,7 @@ impl<'a, 's, P: ModuleProvider> PlaceSymbolizer<'a, 's, P> {
     /// function. `None` where there is no function.
     ///
     /// # Errors
-    /// The first fault of those parts of the module that the frames are made of, or that this part
+    /// The first fault of the module's parts from which the frames are made, or that this part
     /// stands as failed; `OutOfMemory`.
     pub fn frames(
         &mut self,

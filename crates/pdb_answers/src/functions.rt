@@ -50,7 +50,7 @@ fn function_of<'a, P: ModuleProvider>(
     }))
 }
 
-/// Returns the key of what is chosen at a place that a contribution holds, if something is.
+/// Returns the key of the function that is chosen at a place that a contribution holds, if one is.
 fn key_at<I: ModuleTables>(
     parts: &ContextParts<'_, '_>,
     known: Option<&BasicModuleInfo<'_, I>>,
@@ -73,7 +73,7 @@ fn key_at<I: ModuleTables>(
     }
 }
 
-/// Returns what a key chooses, by the data of its module.
+/// Returns the function that a key chooses, from the data of its module.
 fn choose_by<'c, 'a, I: ModuleTables>(
     parts: &'c ContextParts<'a, '_>,
     known: Option<&'c BasicModuleInfo<'a, I>>,
@@ -136,8 +136,8 @@ impl<'a, 's, P: ModuleProvider> PlaceSymbolizer<'a, 's, P> {
         }
     }
 
-    /// Returns a key of the function at a place that a contribution holds, and how many bytes from
-    /// there on have that function.
+    /// Returns a key of the function at a place that a contribution holds, and the number of bytes
+    /// from there on that have this function.
     #[tactic(auto, unfolding(pdb_frames::specs::FramesAt::function_at))]
     fn key_run_at(
         &mut self,
@@ -160,8 +160,8 @@ impl<'a, 's, P: ModuleProvider> PlaceSymbolizer<'a, 's, P> {
         Ok((key_at(&data.parts, known, contribution, place), count))
     }
 
-    /// Returns a key of the function at a place, and how many bytes from there on have that
-    /// function.
+    /// Returns a key of the function at a place, and the number of bytes from there on that have
+    /// this function.
     ///
     /// # Errors
     /// `OutOfMemory` alone.
@@ -202,7 +202,8 @@ impl<'a, 's, P: ModuleProvider> PlaceSymbolizer<'a, 's, P> {
         function_of(alloc, &data.parts, &mut self.namer, module_index, chosen)
     }
 
-    /// Returns the function at a place, and how many bytes from there on have that function.
+    /// Returns the function at a place, and the number of bytes from there on that have this
+    /// function.
     ///
     /// # Errors
     /// `OutOfMemory` alone.

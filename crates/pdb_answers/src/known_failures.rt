@@ -1,4 +1,4 @@
-//! Which part fails in functions that were asked for, so that what can't be read isn't read again.
+//! The parts that fail in functions that were asked for, so that they aren't read again.
 
 ghost use Rattle.std.specs.Prelude.{◌≡◌, ◌↔◌, ℕ, true, Option};
 ghost use Rattle.pdb_frames.specs.FailingParts.{unsuccessful_error};
@@ -29,7 +29,7 @@ pub(crate) fn unsuccessful(part: Part) -> Error
 /// The functions of a module of which something is known.
 #[derive(Clone, Copy)]
 pub(crate) enum Asked {
-    /// All of them.
+    /// All functions of the module.
     Module,
     /// The procedure that begins at a place, with the place of its symbol and of the symbol that
     /// ends it.
@@ -39,7 +39,7 @@ pub(crate) enum Asked {
 }
 
 impl Asked {
-    /// Returns those like a chosen one.
+    /// Returns the functions like a chosen one.
     fn like(chosen: Chosen<'_, '_>) -> Asked
         ensures { result ≡ those_like (chosen_seen chosen.entry) }
     {
@@ -53,7 +53,7 @@ impl Asked {
         }
     }
 
-    /// Returns those in which a part fails that fails in a chosen one.
+    /// Returns the functions in which a part fails that fails in a chosen one.
     fn failing(chosen: Chosen<'_, '_>, part: Part) -> Asked
         ensures { result ≡ those_failing (chosen_seen chosen.entry) part }
     {
@@ -63,7 +63,7 @@ impl Asked {
         }
     }
 
-    /// Whether a chosen function is one of them.
+    /// Whether a chosen function is one of these.
     fn is_about(self, chosen: Chosen<'_, '_>) -> bool
         ensures { (result ≡ true) ↔ IsAbout self (chosen_seen chosen.entry) }
     {
@@ -89,15 +89,15 @@ pub(crate) struct KnownFailure {
     part: Part,
 }
 
-/// What is known of functions that were asked for and whose frames can't be read.
+/// The failures known of functions that were asked for and whose frames can't be read.
 #[derive(Drop)]
 pub struct KnownFailures {
-    /// Each under the number of a place in its module, or under that of the module.
+    /// Each failure under the number of a place in its module, or under the number of the module.
     by_number: BTreeMap<u64, KnownFailure>,
 }
 
-/// Returns the number under which something is known of functions of a module. No clause says which
-/// it is: what is stored there says itself what it is about.
+/// Returns the number under which a failure of functions of a module is stored. No clause says
+/// which number it is: the failure that is stored there says itself what it is about.
 fn number_for(module_index: u16, asked: Asked) -> u64 {
     match asked {
         Asked::Module => u64::from(module_index),
@@ -116,7 +116,8 @@ impl KnownFailures {
         }
     }
 
-    /// Returns what is known under a number of a chosen function of a module.
+    /// Returns the part that fails in a chosen function of a module, if a failure under a number
+    /// says so.
     #[tactic(auto, using(crate::proofs::KnownSteps::known_part))]
     fn under(&self, number: u64, module_index: u16, chosen: Chosen<'_, '_>) -> Option<Part>
         ensures { IsKnownIn self.now module_index (chosen_seen chosen.entry) result }
@@ -129,8 +130,8 @@ impl KnownFailures {
         }
     }
 
-    /// Returns the first part that can't be read of those that the frames in a chosen function of a
-    /// module are made of, if that is known.
+    /// Returns the first part that can't be read, of the parts from which the frames in a chosen
+    /// function of a module are made, if it is known.
     pub(crate) fn part(&self, module_index: u16, chosen: Chosen<'_, '_>) -> Option<Part>
         ensures { IsKnownIn self.now module_index (chosen_seen chosen.entry) result }
     {
@@ -142,8 +143,8 @@ impl KnownFailures {
         self.under(of_function, module_index, chosen)
     }
 
-    /// Stores the first part that can't be read of those that the frames in a chosen function of a
-    /// module are made of.
+    /// Stores the first part that can't be read, of the parts from which the frames in a chosen
+    /// function of a module are made.
     ///
     /// # Errors
     /// [`AllocError`] where memory is refused; then what is known stays as it was.

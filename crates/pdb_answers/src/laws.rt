@@ -8,7 +8,7 @@ ghost use Rattle.pdb_resolving.specs.Fault.{Fault};
 ghost use Rattle.pdb_frames.specs.FailingParts.{Failures, failed_after};
 ghost use Rattle.pdb_answers.specs.FailedLaws.{IsTold, LeavesFailed, Stand};
 
-/// A question that fails in a part, unless memory runs out, leaves that part as failed. A fault in
+/// A question that fails in a part, unless memory runs out, leaves the part as failed. A fault in
 /// it is then reported as its `..Unsuccessful` variant. No question removes a part that stands as
 /// failed.
 pub fn failed_parts_stand<A>()

@@ -1,8 +1,8 @@
 //! Answers at a place: the frames, the function and the file, and how far these go on, over what is
 //! cached of modules.
 //!
-//! What is cached may change, since no answer shows it. Answers may not, nor which parts are known
-//! to fail after a question: later answers depend on these.
+//! The caches may change, since no answer shows them. Answers may not, nor which parts are known to
+//! fail after a question: later answers depend on these.
 #![tactic(auto)]
 
 mod file_runs;

@@ -25,20 +25,20 @@ struct HeldPlace {
     number: Option<usize>,
 }
 
-/// What answers at places go over, but for names.
+/// The data that answers at places go over, but for names.
 pub(crate) struct PlaceData<'a, 's, P: ModuleProvider> {
-    /// What gives the modules' own streams.
+    /// The provider of the modules' own streams.
     pub(crate) provider: &'a P,
-    /// What every answer goes over.
+    /// The parts that every answer goes over.
     pub(crate) parts: ContextParts<'a, 's>,
-    /// What was read of modules.
+    /// The data that were read of modules.
     pub(crate) cached: CachedModules<'a, P::Info>,
 }
 
 impl<'a, 's, P: ModuleProvider> PlaceData<'a, 's, P> {
-    /// Reads and caches what frames at a place are made of: line program and inlinees of its
-    /// module, and the data of the procedure over the place, or, where there is none, the rows of
-    /// the public entry.
+    /// Reads and caches the parts from which frames at a place are made: line program and inlinees
+    /// of its module, and the data of the procedure over the place, or, where there is none, the
+    /// rows of the public entry.
     fn keep_parts(&mut self, alloc: Global, held: HeldPlace) -> Result<(), AllocError>
         ensures { self.new ≡ self.old }
     {
@@ -99,9 +99,9 @@ impl<'a, 's, P: ModuleProvider> PlaceData<'a, 's, P> {
         keep_module(alloc, &mut self.cached, self.provider, modules, cache_place)
     }
 
-    /// Reads and caches the data of the module that holds a place, and what frames there are made
-    /// of, unless a part of that is known to be unreadable. Returns the number of the procedure
-    /// over the place, if there is one.
+    /// Reads and caches the data of the module that holds a place, and the parts from which frames
+    /// there are made, unless one of them is known to be unreadable. Returns the number of the
+    /// procedure over the place, if there is one.
     ///
     /// # Errors
     /// [`AllocError`] where memory is refused.
@@ -137,7 +137,7 @@ impl<'a, 's, P: ModuleProvider> PlaceData<'a, 's, P> {
         Ok(held.number)
     }
 
-    /// What every answer goes over. All else is let go.
+    /// The parts that every answer goes over. Everything around them is let go.
     pub(crate) fn into_parts(self) -> ContextParts<'a, 's>
         ensures { result ≡ self.entry.parts }
     {

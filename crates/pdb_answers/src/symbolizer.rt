@@ -1,4 +1,4 @@
-//! A symbolizer of places, and what its answers go over.
+//! A symbolizer of places, and the data that its answers go over.
 
 ghost use Rattle.std.specs.Prelude.{◌≡◌, IfOk};
 ghost use Rattle.pdb_answers.specs.KnownFailures.{data_among};
@@ -29,13 +29,13 @@ fn empty_modules<'a, P: ModuleProvider>(
 /// section has. What it reads of modules is cached, and a part that can't be read stands as failed
 /// from then on.
 pub struct PlaceSymbolizer<'a, 's, P: ModuleProvider> {
-    /// What answers go over, but for names.
+    /// The data that answers go over, but for names.
     pub(crate) data: PlaceData<'a, 's, P>,
-    /// What names functions, and has the list of modules.
+    /// The namer of functions, which has the list of modules.
     pub(crate) namer: Namer<'a, 's, P>,
     /// The parts of modules that stand as failed.
     pub(crate) failed: Failures,
-    /// Which part fails in functions that were asked for.
+    /// The parts that fail in functions that were asked for.
     pub(crate) known_failures: KnownFailures,
 }
 
@@ -53,7 +53,7 @@ impl<'a, 's, P: ModuleProvider> Model for PlaceSymbolizer<'a, 's, P> {
       failed = s.failed;
     } };
 
-    // What is cached of each module is its own, and what is known to fail does.
+    // The cached data of each module are its own, and the parts known to fail do.
     ghost invariant = { λ s.
         AreKept (data_among P.provided s.data.provider.now s.namer) s.data.cached
         × AreFailuresOf (data_of_modules P.provided s.data.provider.now s.namer)
@@ -82,8 +82,8 @@ impl<'a, 's, P: ModuleProvider> Drop for PlaceSymbolizer<'a, 's, P> {
 }
 
 impl<'a, 's, P: ModuleProvider> PlaceSymbolizer<'a, 's, P> {
-    /// Returns a symbolizer over what gives modules, what every answer goes over, and what names
-    /// functions. Nothing is cached, and nothing has failed yet.
+    /// Returns a symbolizer over a provider of modules, the parts that every answer goes over, and
+    /// a namer of functions. Nothing is cached, and nothing has failed yet.
     ///
     /// # Errors
     /// [`AllocError`] where memory is refused.
@@ -109,30 +109,30 @@ impl<'a, 's, P: ModuleProvider> PlaceSymbolizer<'a, 's, P> {
         })
     }
 
-    /// What gives the modules' own streams.
+    /// The provider of the modules' own streams.
     pub fn provider(&self) -> &'a P
         ensures { result.now ≡ self.now.provider }
     {
         self.data.provider
     }
 
-    /// What every answer goes over: the address map, the contributions, the public list and the
-    /// string table.
+    /// The parts that every answer goes over: the address map, the contributions, the public list
+    /// and the string table.
     pub fn parts(&self) -> &ContextParts<'a, 's>
         ensures { result.now ≡ self.now.parts }
     {
         &self.data.parts
     }
 
-    /// What names functions, and has the list of modules.
+    /// The namer of functions, which has the list of modules.
     pub fn namer(&self) -> &Namer<'a, 's, P>
         ensures { result.now ≡ self.now.formatting }
     {
         &self.namer
     }
 
-    /// What every answer goes over, for another symbolizer over the same tables. What was cached is
-    /// let go.
+    /// The parts that every answer goes over, for another symbolizer over the same tables. What was
+    /// cached is let go.
     pub fn into_parts(self) -> ContextParts<'a, 's>
         ensures { result ≡ self.entry.parts }
     {

@@ -1,4 +1,4 @@
--- The arguments of the program, and what they ask for.
+-- The arguments of the program, and the task that they ask for.
 use Rattle.std.specs.Prelude.{◌≡◌, ◌≢◌, ◌⊎◌, ⊤, ℕ, true, List, [], Option, Some, None, codes}
 use Rattle.std.specs.Prelude.{Bool, false, bytes_eq, string_bytes, option_and_then}
 use Rattle.std.specs.Option.{option_map_or}
@@ -63,7 +63,7 @@ entered_by words = subcommand_of program_app words
 abbrev pub address_at : Text → List Row → Option ℕ
 address_at name rows = option_and_then address_of (first_of name rows)
 
--- whether the flag of this name was given: its value is `true` then, and else `false`
+-- whether the flag of this name was given: its value is `true` then, and otherwise `false`
 abbrev pub flag_at : Text → List Row → Bool
 flag_at name rows =
     option_map_or (λ value. bytes_eq value (codes "true")) (first_of name rows) false
@@ -96,7 +96,7 @@ LacksTask None = ⊤
 LacksTask (Some entered) = (first_of (codes "FILE") entered.1 ≡ None)
     ⊎ ((entered.0 ≢ codes "frames") × (entered.0 ≢ codes "sizes"))
 
--- what is reported of an error in reading the arguments: help and the version as such
+-- the fault that is reported of an error in reading the arguments: help and the version as such
 abbrev pub IsToldOf : ErrorKind → WordsFault → Type 0
 IsToldOf kind faults.NotAnAddress = ⊥
 IsToldOf kind (faults.Words text) = (kind ≢ kinds.OutOfMemory)
@@ -104,7 +104,7 @@ IsToldOf kind (faults.Words text) = (kind ≢ kinds.OutOfMemory)
 IsToldOf kind (faults.Help text) = (kind ≡ kinds.DisplayHelp) ⊎ (kind ≡ kinds.DisplayVersion)
 IsToldOf kind faults.OutOfMemory = ⊤
 
--- what is reported for what was entered
+-- the fault that is reported for what was entered
 abbrev pub IsToldOfEntered : Option Entered → WordsFault → Type 0
 IsToldOfEntered entered faults.NotAnAddress = LacksAddress entered
 IsToldOfEntered entered (faults.Words text) = LacksTask entered
@@ -124,8 +124,8 @@ IsRefusedSo words fault = (kind : ErrorKind) × IsAmong kind (fault_of program_a
 abbrev pub IsTakenSo : List Text → WordsFault → Type 0
 IsTakenSo words fault = IsTaken words × IsToldOfEntered (entered_by words) fault
 
--- why the arguments give no task: they aren't taken, or are taken and FILE, START or END don't do;
--- memory may run out for any
+-- the fault of arguments that give no task: they aren't taken, or are taken and FILE, START or END
+-- don't do; memory may run out for any
 abbrev pub IsFaultOf : List Text → WordsFault → Type 0
 IsFaultOf words fault = (fault ≡ faults.OutOfMemory)
     ⊎ (IsRefusedSo words fault ⊎ IsTakenSo words fault)

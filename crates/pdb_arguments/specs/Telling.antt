@@ -1,4 +1,4 @@
--- What is reported where the arguments give no task.
+-- The report where the arguments give no task.
 use Rattle.std.specs.Prelude.{◌≡◌, ◌⊎◌, ℕ, List, Option, None, Some, codes, string_bytes}
 use Rattle.std.specs.Io.KnownBytes.{Appends}
 use Rattle.std.specs.declared.io.ErrorKind.{ErrorKind}
@@ -12,14 +12,14 @@ status_of (faults.Words text) = 2
 status_of (faults.Help text) = 0
 status_of faults.OutOfMemory = 1
 
--- what is written to the output, if anything is: help
+-- the text that is written to the output, if there is one: help
 abbrev pub output_text : WordsFault → Option (List ℕ)
 output_text faults.NotAnAddress = None
 output_text (faults.Words text) = None
 output_text (faults.Help text) = Some (string_bytes text)
 output_text faults.OutOfMemory = None
 
--- what is written to the errors, if anything is: all but help
+-- the text that is written to the errors, if there is one: all but help
 abbrev pub errors_text : WordsFault → Option (List ℕ)
 errors_text faults.NotAnAddress = Some (codes "fault: NotAnAddress\n")
 errors_text (faults.Words text) = Some (string_bytes text)

@@ -1,4 +1,4 @@
-//! The command that the program's arguments are read by, with its help.
+//! The command from which the program's arguments are read, with its help.
 
 ghost use Rattle.std.specs.Prelude.{◌≡◌, IfOk, codes, false};
 ghost use Rattle.clap.specs.Words.{app_of, new_app, rule_of, with_rule, with_subcommand};

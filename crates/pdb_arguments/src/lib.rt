@@ -1,8 +1,8 @@
-//! The program's arguments, read by `clap`: which task they ask for, or what is reported in its
+//! The program's arguments, read by `clap`: the task that they ask for, or what is reported in its
 //! place.
 //!
-//! An option may be added, with its row in `specs/Task` and its line in the manual page. What
-//! stands there may not change: scripts give these words.
+//! An option may be added, with its row in `specs/Task` and its line in the manual page. The
+//! arguments that stand there may not change: scripts give these words.
 #![tactic(auto)]
 
 mod command;

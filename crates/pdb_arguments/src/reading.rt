@@ -13,7 +13,7 @@ use clap::{ArgMatches, Error};
 use pdb_engine::parse_address;
 use std::alloc::Global;
 
-/// What is reported for an error in reading the arguments.
+/// The fault that is reported for an error in reading the arguments.
 fn told(alloc: Global, error: &Error) -> WordsFault
     ensures { IsToldOf (kind_of error.now) result }
 {
@@ -103,7 +103,7 @@ fn task_in(alloc: Global, name: &str, matches: &ArgMatches<'_>) -> Result<Task, 
     })
 }
 
-/// The task of what the arguments entered.
+/// The task that the arguments entered.
 ///
 /// # Errors
 /// As `task_in`; `Words` with no text where nothing was entered, which is never so after `clap`'s

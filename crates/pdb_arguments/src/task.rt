@@ -1,4 +1,4 @@
-//! Tasks of the program, and why its arguments give none.
+//! Tasks of the program, and the faults of arguments that give none.
 
 use std::alloc::AllocError;
 use thiserror::Error;
@@ -12,7 +12,7 @@ pub enum Task {
         file: String,
         /// Whether decorated names are undecorated.
         demangle: bool,
-        /// Whether what modules hold may stand in any order in the file.
+        /// Whether the contributions of modules may stand in any order in the file.
         any_order: bool,
         /// Whether lines of JSON are written in place of text.
         json: bool,
@@ -29,12 +29,13 @@ pub enum Task {
         by_file: bool,
         /// Whether decorated names are undecorated.
         demangle: bool,
-        /// Whether what modules hold may stand in any order in the file.
+        /// Whether the contributions of modules may stand in any order in the file.
         any_order: bool,
     },
 }
 
-/// Why the arguments give no task. `Words` and `Help` print what they hold, any other its name.
+/// The fault of arguments that give no task. `Words` and `Help` print the text that they hold, any
+/// other its name.
 #[derive(Debug, Drop, PartialEq, Error)]
 pub enum WordsFault {
     /// START or END is no address.

@@ -1,4 +1,4 @@
-//! What is reported where the arguments give no task.
+//! The report where the arguments give no task.
 
 ghost use Rattle.std.specs.Prelude.{◌≡◌, ◌⊎◌, ℕ, List, Option, Some, OnOk, IfErr, IfOk};
 ghost use Rattle.std.specs.Io.KnownBytes.{Appends};
@@ -11,9 +11,9 @@ use std::io::{ErrorKind, Write};
 
 /// An output for texts: any writer.
 pub trait TextOutput {
-    // what it holds, where that is known
+    // the text that it holds, where it is known
     ghost contents: { Self → Option (List ℕ) };
-    // a write failed with that kind between the one and the other, where that is known
+    // a write failed with this kind between the one and the other, where this is known
     ghost has_failed: { Self → Self → Kind → Type 0 };
 
     /// Writes all of a text.
@@ -47,10 +47,11 @@ fn tell<W: TextOutput>(output: &mut W, text: &str)
     let _ = output.put(text);
 }
 
-/// Reports why the arguments give no task, and returns the exit status. Help goes to `output`, with
-/// status 0. Wrong arguments go to `errors`, with status 2, and so does a report that memory ran
-/// out, with status 1. What holds no text is reported in one line, `fault: ` and its name. A write
-/// to `errors` that fails is ignored, and ends the text. It takes no memory of its own.
+/// Reports the fault of arguments that give no task, and returns the exit status. Help goes to
+/// `output`, with status 0. Wrong arguments go to `errors`, with status 2, and so does a report
+/// that memory ran out, with status 1. A fault without a text is reported in one line, which is
+/// `fault: ` and its name. A write to `errors` that fails is ignored, and ends the text. It takes
+/// no memory of its own.
 ///
 /// # Errors
 /// The kind of a write to `output` that failed, which ends the help. Nothing is reported of it.

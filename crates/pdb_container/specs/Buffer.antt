@@ -1,4 +1,4 @@
--- Bytes that are read in order, and what a call on them may return and leave.
+-- Bytes that are read in order, and the results and effects of a call on them.
 use Rattle.std.specs.Prelude.{◌≡◌, ℕ, ◌-◌, ◌||◌, List, length, take, drop, nat_lt, if◌then◌else◌}
 use Rattle.std.specs.Prelude.{Result, Ok, Err}
 use Rattle.std.specs.Int.{next_multiple_of}
@@ -15,18 +15,18 @@ pub record Buffer : Type 0 where
 unfoldable pub rest : Buffer → List ℕ
 rest b = drop b.pos b.bytes
 
--- the same bytes, of which these are left
+-- the same bytes, with these left
 abbrev pub behind : Buffer → List ℕ → Buffer
 behind b left = record { bytes = b.bytes; pos = length b.bytes - length left }
 
--- A call returned what reading the bytes that are left gives and advanced past it; or it returned
--- reading's fault and stayed.
+-- A call returned the reading's value of the bytes that are left and advanced past it; or it
+-- returned the reading's fault and stayed.
 abbrev pub Reads : {X Y : Type 0} → (X → Y) → Result X Error → Buffer → Buffer → Reader Y → Type 0
 Reads view (Ok x) old new read =
     (read (rest old) ≡ Ok (view x, rest new)) × (new ≡ behind old (rest new))
 Reads view (Err e) old new read = IsOfBytes e × (read (rest old) ≡ Err (fault_of e)) × (new ≡ old)
 
--- As `Reads`, of several calls in a row: where one of them is refused, the ones before it have
+-- As `Reads`, of several calls in a row: where one of them is refused, the calls before it have
 -- advanced.
 abbrev pub ReadsInSteps : {X Y : Type 0} → (X → Y) → Result X Error → Buffer → Buffer → Reader Y
     → Type 0
@@ -41,7 +41,7 @@ abbrev pub ParsesFront : {X Y : Type 0} → (X → Y) → Result X Error → Lis
 ParsesFront view (Ok x) new read = read ≡ Ok (view x, new)
 ParsesFront view (Err e) new read = IsOfBytes e × (read ≡ Err (fault_of e))
 
--- A call left the buffer as it was to be; or it returned the fault and changed nothing.
+-- A call left the buffer as stated; or it returned the fault and changed nothing.
 abbrev pub Moves : {X : Type 0} → Result X Error → Buffer → Buffer → Result Buffer Fault → Type 0
 Moves (Ok x) old new moved = moved ≡ Ok new
 Moves (Err e) old new moved = IsOfBytes e × (moved ≡ Err (fault_of e)) × (new ≡ old)

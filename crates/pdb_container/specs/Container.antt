@@ -12,7 +12,7 @@ use Rattle.pdb_container.specs.Fault.{PageReferenceOutOfRange, StreamNotFound, U
 use Rattle.pdb_container.specs.Fault.{◌>>=◌, guard, refuse}
 use Rattle.pdb_container.specs.Places.{bytes_at, page_places}
 
--- what the header says
+-- the header's numbers
 pub record Layout : Type 0 where
   pub page_size : ℕ
   pub pages_used : ℕ
@@ -48,15 +48,16 @@ pages_in used (suc n) (page ∷ numbers) = do
 abbrev pub IsPageSize : ℕ → Bool
 IsPageSize size = is_power_of_two size && (nat_le 0x100 size && nat_le size 0x800000)
 
--- how many pages list those of the directory, by four bytes each
+-- the number of pages that list those of the directory, by four bytes each
 abbrev pub list_count : ℕ → ℕ → ℕ
 list_count page_size directory_size = div_ceil (4 * div_ceil directory_size page_size) page_size
 
--- what follows the header's numbers
+-- the bytes after the header's numbers
 unfoldable pub behind_header : List ℕ → List ℕ
 behind_header front = drop 52 front
 
--- how a container begins: a text of 24 bytes, the end of a line, and 0x1A, "DS" and three NULs
+-- the magic at a container's start: a text of 24 bytes, the end of a line, and 0x1A, "DS" and three
+-- NULs
 abbrev pub magic : List ℕ
 magic = codes "Microsoft C/C++ MSF 7.00" ++ 0x0d ∷ 0x0a ∷ 0x1a ∷ codes "DS" ++ 0 ∷ 0 ∷ 0 ∷ []
 
@@ -74,7 +75,7 @@ header_in front = do
     list_pages = list;
   })
 
--- the byte at which the pages end that a header counts, from page 0 to the last that may be used
+-- the byte at which the pages that a header counts end, from page 0 to the last that may be used
 abbrev pub pages_end : List ℕ → ℕ
 pages_end header = (word_at header 40 + 1) * word_at header 32
 
@@ -83,7 +84,7 @@ unfoldable pub front_in : List ℕ → Result (List ℕ) Fault
 front_in file =
     if nat_lt (length file) 4096 then Err UnrecognizedFileFormat else Ok (take 4096 file)
 
--- what the MSF header of a file says, or its first fault
+-- the MSF header of a file, or its first fault
 unfoldable pub layout_of : List ℕ → Result Layout Fault
 layout_of file = do
   front ← front_in file
@@ -93,7 +94,7 @@ layout_of file = do
 abbrev pub bytes_in : ℕ → List ℕ → ℕ → List ℕ → Result (List ℕ) Fault
 bytes_in page_size pages size file = bytes_at file (page_places page_size pages size)
 
--- the numbers that they spell
+-- the numbers that the first bytes of these pages spell
 abbrev pub words_in : ℕ → List ℕ → ℕ → List ℕ → Result (List ℕ) Fault
 words_in page_size pages size file =
     bytes_in page_size pages size file >>= λ bytes. Ok (words bytes)
@@ -117,7 +118,7 @@ directory_of h file = do
 abbrev pub absent : ℕ
 absent = 2 ^ 32 - 1
 
--- how many pages a stream has: an absent one has none
+-- the number of pages of a stream: an absent one has none
 abbrev pub page_count : ℕ → ℕ → ℕ
 page_count page_size size = if size == absent then 0 else div_ceil size page_size
 

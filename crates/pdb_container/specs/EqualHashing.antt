@@ -1,4 +1,4 @@
--- Equal values, and what is hashed of them.
+-- Equal values and their hashes.
 use Rattle.std.specs.Prelude.{◌≡◌, ◌↔◌, Bool, true}
 
 -- `==` is true exactly for one and the same value, and equal values hash alike

@@ -1,4 +1,4 @@
--- What a fault prints.
+-- The printed text of a fault.
 use Rattle.std.specs.Prelude.{ℕ, List, ◌++◌, codes}
 use Rattle.std.specs.Fmt.{decimal}
 use Rattle.std.specs.declared.io.ErrorKind.{ErrorKind}
@@ -8,7 +8,7 @@ use Rattle.pdb_container.specs.declared.error.Error.TheVariants as errors
 use Rattle.pdb_container.specs.declared.error.ModuleFault.{ModuleFault}
 use Rattle.pdb_container.specs.declared.error.ModuleFault.TheVariants as kept
 
--- what the kind of an input or output error prints: its name
+-- the printed text of the kind of an input or output error: its name
 abbrev pub kind_text : ErrorKind → List ℕ
 kind_text kinds.NotFound = codes "NotFound"
 kind_text kinds.PermissionDenied = codes "PermissionDenied"
@@ -18,7 +18,8 @@ kind_text kinds.WriteZero = codes "WriteZero"
 kind_text kinds.BrokenPipe = codes "BrokenPipe"
 kind_text kind = codes "Other"
 
--- what the stored fault of a module's stream prints: its name, and its values in parentheses
+-- the printed text of the stored fault of a module's stream: its name, and its values in
+-- parentheses
 abbrev pub module_fault_text : ModuleFault → List ℕ
 module_fault_text (kept.StreamNotFound value) =
     codes "StreamNotFound(" ++ decimal value ++ codes ")"

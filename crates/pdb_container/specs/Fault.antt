@@ -1,4 +1,4 @@
--- Faults: what an error of the system counts as, and when a call may fail for another cause.
+-- Faults: the fault of an error, and when a call may fail for another cause.
 use Rattle.std.specs.Prelude.{◌≡◌, ◌≢◌, ℕ, ◌+◌, ◌-◌, ◌^◌, ◌≤◌, ◌⊎◌, min, Bool, if◌then◌else◌}
 use Rattle.std.specs.Prelude.{Option, Some, None, Result, Ok, Err}
 use Rattle.std.specs.declared.io.ErrorKind.{ErrorKind}
@@ -40,7 +40,7 @@ pub data Fault : Type 0 where
   CrossModuleRefNotFound : ℕ → Fault
   Kept : ModuleFault → Fault
 
--- what fault an error is; out of memory is none, and its value there stands in no promise
+-- the fault of an error; out of memory has none, and no promise uses the value that stands for it
 abbrev pub fault_of : Error → Fault
 fault_of errors.UnrecognizedFileFormat = UnrecognizedFileFormat
 fault_of (errors.InvalidPageSize a) = InvalidPageSize a
@@ -69,7 +69,7 @@ fault_of (errors.CrossModuleRefNotFound a) = CrossModuleRefNotFound a
 fault_of (errors.Kept a) = Kept a
 fault_of errors.OutOfMemory = UnexpectedEof
 
--- the fault that an error says: none is said by out of memory
+-- the fault that an error reports; out of memory reports none
 abbrev pub said : Error → Option Fault
 said errors.OutOfMemory = None
 said e = Some (fault_of e)
@@ -88,11 +88,11 @@ abbrev pub ◌>>=◌ : {F A B : Type 0} → Result A F → (A → Result B F) �
 (Ok x) >>= f = f x
 (Err e) >>= f = Err e
 
--- a condition that has to hold, else the fault
+-- a condition that has to hold, or else the fault
 abbrev pub guard : {F : Type 0} → Bool → F → Result (Unit {0}) F
 guard holds fault = if holds then Ok tt else Err fault
 
--- a condition that must not hold, else the fault
+-- a condition that must not hold, or else the fault
 abbrev pub refuse : {F : Type 0} → Bool → F → Result (Unit {0}) F
 refuse wrong fault = if wrong then Err fault else Ok tt
 
@@ -109,15 +109,14 @@ error_of cause = error_of_kind (error_kind cause)
 abbrev pub HasRisen : ℕ → ℕ → Type 0
 HasRisen old new = min (old + 1) (2 ^ 64 - 1) ≤ new
 
--- what the file does not decide: that memory was short, or that the source failed, which it has
--- counted
+-- a cause outside the file: memory was short, or the source failed and counted the failure
 abbrev pub IsOutside : Error → Type 0 → Type 0
 IsOutside errors.OutOfMemory failed = Unit {0}
 IsOutside (errors.IoError kind) failed = (kind ≢ kinds.UnexpectedEof) × failed
 IsOutside e failed = ⊥
 
--- What a call returned, seen by view, is what reading gives, unless memory was short or the source
--- failed.
+-- A call's result, seen by view, is the reading's value or fault, unless memory was short or the
+-- source failed.
 abbrev pub Gives : {X Y : Type 0} → (X → Y) → Type 0 → Result X Error → Result Y Fault → Type 0
 Gives view failed (Ok x) read = read ≡ Ok (view x)
 Gives view failed (Err e) read = IsOutside e failed ⊎ (read ≡ Err (fault_of e))
@@ -127,12 +126,12 @@ abbrev pub IsOfBytes : Error → Type 0
 IsOfBytes errors.OutOfMemory = ⊥
 IsOfBytes e = Unit {0}
 
--- What a call that takes no memory and reads from no source returned, seen by view, always is what
--- reading gives.
+-- The result of a call that takes no memory and reads from no source, seen by view, is always the
+-- reading's value or fault.
 abbrev pub Parses : {X Y : Type 0} → (X → Y) → Result X Error → Result Y Fault → Type 0
 Parses view (Ok x) read = read ≡ Ok (view x)
 Parses view (Err e) read = IsOfBytes e × (read ≡ Err (fault_of e))
 
--- out of memory, or the fault that reading gives
+-- out of memory, or the reading's fault
 abbrev pub IsFaultOf : {Y : Type 0} → Result Y Fault → Error → Type 0
 IsFaultOf read e = (e ≡ errors.OutOfMemory) ⊎ (read ≡ Err (fault_of e))

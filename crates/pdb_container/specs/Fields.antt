@@ -21,7 +21,7 @@ number_at w bytes =
 abbrev pub signed_at : Width → Reader ℤ
 signed_at w bytes = number_at w bytes >>= λ x. Ok (cast_signed w x.0, x.1)
 
--- how many bytes lie from a place to the next multiple of four
+-- the number of bytes from a place to the next multiple of four
 abbrev pub padding : ℕ → ℕ
 padding place = next_multiple_of place 4 - place
 
@@ -30,7 +30,7 @@ abbrev pub bytes_of : ℕ → Reader (List ℕ)
 bytes_of n bytes =
     if nat_lt (length bytes) n then Err UnexpectedEof else Ok (take n bytes, drop n bytes)
 
--- what stands before a NUL's place, and what stands after it
+-- the bytes before a NUL's place, and the bytes after it
 abbrev pub cut_at : List ℕ → Option ℕ → Result (List ℕ × List ℕ) Fault
 cut_at bytes None = Err UnexpectedEof
 cut_at bytes (Some end) = Ok (take end bytes, drop (end + 1) bytes)

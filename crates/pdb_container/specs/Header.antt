@@ -1,4 +1,4 @@
--- What a header says, and what is true of what a file's header says.
+-- The MSF header as the definitions see it, and its invariant.
 use Rattle.std.specs.Prelude.{◌≡◌, ◌*◌, ◌%◌, ◌<◌, ◌≤◌, ◌^◌, length}
 use Rattle.pdb_container.specs.declared.msf.Header.{Header}
 use Rattle.std.specs.Int.{div_ceil}
@@ -13,7 +13,7 @@ layout h = record {
   list_pages = h.list_pages.items;
 }
 
--- the page size is a page's and a multiple of 4, and the pages that list the directory's are enough
+-- the page size is in range and a multiple of 4, and the pages that list the directory's are enough
 pub record IsSound (h : Layout) : Type 0 where
   pub low : 0x100 ≤ h.page_size
   pub high : h.page_size ≤ 0x800000

@@ -1,5 +1,5 @@
 -- Indices as numbers of 32 bits.
--- That bit 31 leads into another module is in microsoft-pdb's cvinfo.h and in the pdb crate.
+-- The meaning of bit 31 is from microsoft-pdb's cvinfo.h and the pdb crate.
 use Rattle.std.specs.Prelude.{ℕ, ◌^◌, Bool, not, ◌==◌}
 use Rattle.std.specs.Int.RustNames.{bit_and}
 

@@ -1,11 +1,11 @@
--- What stands one after the other in bytes, in order, and how it ends.
+-- Values that stand one after the other in bytes, in order, and the fault that ends them.
 use Rattle.std.specs.Prelude.{◌≡◌, ℕ, zero, suc, List, [], ◌∷◌, length, nat_lt, if◌then◌else◌}
 use Rattle.std.specs.Prelude.{Option, None, Some, Result, Ok, Err}
 use Rattle.pdb_container.specs.declared.error.Error.{Error}
 use Rattle.pdb_container.specs.Fault.{Fault, fault_of, IsOfBytes}
 use Rattle.pdb_container.specs.Fields.{Reader}
 
--- values in their order, and the fault at which they end, if they don't end well
+-- values in their order, and the fault at which they end, or none
 pub record Listing (A : Type 0) : Type 0 where
   pub items : List A
   pub fault : Option Fault
@@ -18,9 +18,9 @@ ending fault = record { items = []; fault = fault }
 abbrev pub before : {A : Type 0} → A → Listing A → Listing A
 before x others = record { items = x ∷ others.items; fault = others.fault }
 
--- A value that was read of so many bytes, before those in the bytes after it; or the fault. These
--- have to be fewer: a value that takes no byte would come again and again, and ends the list. No
--- reading that is used gives one.
+-- A value that was read from so many bytes, before the values in the bytes after it; or the fault.
+-- Fewer bytes have to be left: a value that takes no byte would come again and again, and ends the
+-- list. No reading that is used gives one.
 abbrev pub onward : {A : Type 0} → (List ℕ → Listing A) → ℕ → Result (A × List ℕ) Fault → Listing A
 onward others count (Ok read) =
     if nat_lt (length read.1) count then before read.0 (others read.1) else ending None
@@ -46,8 +46,8 @@ whole_with (Some e) items = Err e
 abbrev pub whole : {A : Type 0} → Listing A → Result (List A) Fault
 whole l = whole_with l.fault l.items
 
--- What an iterator returned of what was still to come, and what comes after that: after an end or
--- a fault nothing. Its fault is the list's, and never out of memory.
+-- An iterator's next value of those still to come, and the values after it: after an end or a fault
+-- there are none. The iterator's fault is the list's, and never out of memory.
 abbrev pub Advances : {X A : Type 0} → (X → A) → Listing A → Result (Option X) Error → Listing A
     → Type 0
 Advances view old (Ok (Some x)) new = old ≡ before (view x) new

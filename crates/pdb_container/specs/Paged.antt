@@ -27,7 +27,7 @@ pub data HasNoPlace (file : List ℕ) (n : ℕ) (fault : Fault) : Type 0 where
       → directory_of h file ≡ Ok numbers
       → stream_pages_in h.page_size h.pages_used n numbers ≡ Err fault → HasNoPlace file n fault
 
--- What a limit makes of stream n of a file.
+-- The effect of a limit on stream n of a file.
 pub record IsLimited (file : List ℕ) (n : ℕ) : Type 0 where
   -- a stream that is there is cut to its first bytes
   pub cut : (limit : ℕ) (bytes : List ℕ) → stream file n None ≡ Ok bytes

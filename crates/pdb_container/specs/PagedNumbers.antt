@@ -8,11 +8,12 @@ use Rattle.pdb_container.specs.Container.{word_at}
 
 -- ---- pages, each once
 
--- where byte i of a list of pages stands, where page k of the list stands at places[k], in pages
+-- the place of byte i of a list of pages, where page k of the list stands at places[k], in pages
 abbrev pub byte_place : ℕ → List ℕ → ℕ → ℕ
 byte_place page_size places i = slice_index places (i / page_size) * page_size + i % page_size
 
--- Each page of a list stands at its place among the pages, and each of these is one of the list's.
+-- Each page of a list stands at its place among the pages, and each of the pages is one of the
+-- list's.
 pub record AreDistinct (list pages places : List ℕ) : Type 0 where
   pub many : length places ≡ length list
   pub few : length pages ≤ length list
@@ -20,13 +21,13 @@ pub record AreDistinct (list pages places : List ℕ) : Type 0 where
       × (slice_index pages (slice_index places i) ≡ slice_index list i)
   pub page : (k : ℕ) → k < length pages → (i : ℕ) × (i < length list) × (slice_index places i ≡ k)
 
--- what is known of a page is its place among the pages
+-- the known value of a page is its place among the pages
 pub record AreKnown (pages : List ℕ) (known : BTreeMap ℕ ℕ) : Type 0 where
   pub each : (page place : ℕ) → get nat_cmp known page ≡ Some place
       → (place < length pages) × (slice_index pages place ≡ page)
 
 -- The first `read` bytes of the pages are those of the first `size` bytes of a list of pages: each
--- of these is there at its place, and no other byte is.
+-- byte of the list is there at its place, and no other byte is.
 pub record StandIn (page_size : ℕ) (list : List ℕ) (size : ℕ) (pages places : List ℕ) (read : ℕ)
     : Type 0 where
   pub many : length places ≡ length list

@@ -1,4 +1,4 @@
--- What a list of pages is seen as.
+-- The model of a list of pages.
 use Rattle.std.specs.Prelude.{◌≢◌, ℕ, ◌+◌, ◌*◌, ◌<◌, List, [], ◌∷◌}
 use Rattle.std.specs.List.{range_with_len}
 use Rattle.pdb_container.specs.declared.source.SourceSlice.{SourceSlice}

@@ -1,4 +1,4 @@
--- What a fault prints, in pieces.
+-- The printed text of a fault, in pieces.
 use Rattle.std.specs.Prelude.{ℕ, List, ◌++◌}
 use Rattle.std.specs.Fmt.{decimal}
 use Rattle.pdb_container.specs.declared.printed_fault.PrintedFault.{PrintedFault}
@@ -10,7 +10,7 @@ abbrev pub piece_text : PrintedPiece → List ℕ
 piece_text (pieces.Text text) = text.now
 piece_text (pieces.Number n) = decimal n
 
--- what a fault prints, by its pieces
+-- the printed text of a fault, from its pieces
 abbrev pub printed_text : PrintedFault → List ℕ
 printed_text t =
     (t.name).now ++ piece_text t.first ++ (t.between).now ++ piece_text t.second

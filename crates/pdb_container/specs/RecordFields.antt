@@ -12,7 +12,7 @@ use Rattle.pdb_container.specs.declared.index.IdIndex.{IdIndex}
 use Rattle.pdb_container.specs.declared.variant.Variant.{Variant}
 use Rattle.pdb_container.specs.declared.variant.Variant.TheVariants as variants
 
--- A call returned what reading gives and advanced past it, unless memory was short.
+-- A call returned the reading's value or fault and advanced past it, unless memory was short.
 abbrev pub GivesFront : {X Y : Type 0} → (X → Y) → Result X Error → List ℕ
     → Result (Y × List ℕ) Fault → Type 0
 GivesFront view result new read = Gives (λ x. (view x, new)) ⊥ result read
@@ -68,7 +68,7 @@ variant_behind prefix bytes =
     else (if prefix == 0x800a then as_value variants.U64 (number_at w64 bytes)
     else Err (UnexpectedNumericPrefix prefix))))))))
 
--- a number with the width that it says, signed or not (LF_CHAR to LF_UQUADWORD)
+-- a number of the width that it states, signed or not (LF_CHAR to LF_UQUADWORD)
 unfoldable pub variant_at : Reader Variant
 variant_at bytes = do
   prefix ← number_at w16 bytes
@@ -76,7 +76,7 @@ variant_at bytes = do
 
 -- ---- names
 
--- a name: a C string in the records of leaves above 0x1500, else a Pascal string
+-- a name: a C string in the records of leaves above 0x1500, otherwise a Pascal string
 unfoldable pub name_at : ℕ → Reader (List ℕ)
 name_at leaf bytes = if nat_lt 0x1500 leaf then c_string_at bytes else pascal_string_at bytes
 

@@ -9,41 +9,41 @@ use std::io;
 use std::io::ErrorKind;
 use std::marker::Model;
 
-/// How many bytes may be copied, and as many listed, of a file of any size: 1 MB. So a small file
-/// whose streams lie in several pieces isn't refused. docs/COSTS.md has what the limits on copies
-/// and lists lead to.
+/// The number of bytes that may be copied, and as many listed, of a file of any size: 1 MB. So a
+/// small file whose streams lie in several pieces isn't refused. docs/COSTS.md has what the limits
+/// on copies and lists lead to.
 pub const ALWAYS_ALLOWED: u64 = 0x10_0000;
 
-/// How many times a file's size may be copied besides: the file and all copies of it then take
-/// eight times its bytes. Of 252 databases of real linkers none lists a page twice, and the one
-/// that copies most copies 0.22 times its bytes.
+/// The multiple of a file's size that may be copied besides: the file and all copies of it then
+/// take eight times its bytes. Of 252 databases of real linkers none lists a page twice, and the
+/// one that copies most copies 0.22 times its bytes.
 const TIMES_COPIED: u64 = 7;
 
-/// How many times a file's size may be listed besides. It is large, so that a caller who asks for
-/// the same streams again and again isn't refused, and yet going through the lists is linear in the
-/// file: it takes 0.2 microseconds for each byte.
+/// The multiple of a file's size that may be listed besides. It is large, so that a caller who asks
+/// for the same streams again and again isn't refused, and yet going through the lists is linear in
+/// the file: it takes 0.2 microseconds for each byte.
 pub const TIMES_LISTED: u64 = 1024;
 
-/// How many more bytes may be copied and listed of bytes that are shared.
+/// The numbers of bytes that may still be copied and listed of bytes that are shared.
 #[derive(Clone, Copy, Debug)]
 pub struct CopyLimits {
     copied: u64,
     listed: u64,
 }
 
-/// Bytes that are shared, as a file's. A view of one slice shares them, and any other has a copy.
-/// No more is copied in all than 1 MB and seven times the bytes themselves, and no more is listed
-/// than 1 MB and 1,024 times the bytes, by the sizes that are asked for.
+/// Shared bytes, such as a file's. A view of one slice shares them, and any other has a copy. No
+/// more is copied in all than 1 MB and seven times the bytes themselves, and no more is listed than
+/// 1 MB and 1,024 times the bytes, by the sizes that are asked for.
 ///
-/// A file's streams can name the same pages over and over. This bounds the memory that copies of
-/// them take, and the time of going through the lists: that is spent even where the view is then
-/// refused and nothing is copied.
+/// A file's streams can name the same pages over and over. The bounds limit the memory that copies
+/// of the pages take, and the time of going through the lists, which is spent even where the view
+/// is then refused and nothing is copied.
 #[derive(Debug, Drop)]
 pub struct BoundedBytes {
     bytes: SharedBytes,
-    /// How many more bytes may be copied.
+    /// The number of bytes that may still be copied.
     left: u64,
-    /// How many more bytes may be listed.
+    /// The number of bytes that may still be listed.
     listed_left: u64,
 }
 
@@ -74,7 +74,7 @@ impl BoundedBytes {
         }
     }
 
-    /// How many more bytes may be copied and listed.
+    /// The numbers of bytes that may still be copied and listed.
     pub fn limits(&self) -> CopyLimits {
         CopyLimits {
             copied: self.left,
@@ -98,8 +98,8 @@ impl BoundedBytes {
     }
 }
 
-/// Past the bound a view is refused by `OutOfMemory`, and counts for nothing. So is a list, which
-/// otherwise counts whether or not a view of it succeeds.
+/// Past the bound a view is refused by `OutOfMemory`, and isn't counted; nor is a refused list. Any
+/// other list counts whether or not a view of it succeeds.
 impl Source for BoundedBytes {
     ghost bytes = { λ b. b };
 

@@ -47,7 +47,7 @@ impl<'b> From<&'b [u8]> for ParseBuffer<'b> {
 
 /// A value that can be read at the place of a parse buffer.
 pub trait FromBuffer {
-    /// What the bytes that are left say: a value and the bytes after it, or the fault.
+    /// The reading of the bytes that are left: a value and the bytes after it, or the fault.
     ghost read: { Reader Self };
 
     /// Reads the value at the buffer's place.
@@ -59,7 +59,7 @@ pub trait FromBuffer {
 }
 
 impl<'b> ParseBuffer<'b> {
-    /// How many bytes are left.
+    /// The number of bytes that are left.
     #[tactic(auto, unfolding(crate::specs::Buffer::rest))]
     pub fn len(&self) -> usize
         ensures { result ≡ length (rest self.now) }

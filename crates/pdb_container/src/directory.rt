@@ -1,4 +1,4 @@
-//! The MSF directory: how many streams there are, their sizes, and where their page numbers stand.
+//! The MSF directory: the number of streams, their sizes, and the places of their page numbers.
 
 ghost use Rattle.std.specs.Prelude.{◌≡◌, ◌+◌, ◌-◌, ◌*◌, ◌<◌, ◌≤◌, ◌^◌, ℕ, length, vec_len};
 ghost use Rattle.std.specs.Prelude.{take, drop, slice_index, IfOk, IfErr, Ok, Err, ◌≢◌};
@@ -15,11 +15,11 @@ use std::alloc::Global;
 /// The size of a stream that is not there.
 const ABSENT: u32 = 0xffff_ffff;
 
-/// How many streams have one start together.
+/// The number of streams that have one start together.
 const GROUP: usize = 256;
 
-/// An MSF directory: its numbers, and for the first of each 256 streams that have a size how many
-/// page numbers stand before its own.
+/// An MSF directory: its numbers, and for the first of each 256 streams that have a size the number
+/// of page numbers before the stream's own.
 #[derive(Drop)]
 pub struct Directory {
     numbers: PagedNumbers,
@@ -77,7 +77,8 @@ impl Directory {
         }
     }
 
-    /// The size in bytes that is stated for a stream. None of its page numbers is looked at.
+    /// The size in bytes that is stated for a stream. None of the stream's page numbers is looked
+    /// at.
     ///
     /// # Errors
     /// `StreamNotFound`, `UnexpectedEof`, and no other.
@@ -109,15 +110,16 @@ impl Directory {
         Ok(size)
     }
 
-    /// How many bytes the pages of a list can have: one page for each of the directory's numbers.
+    /// The number of bytes that the pages of a list can have: one page for each of the directory's
+    /// numbers.
     pub fn longest_list(&self, page_size: u32) -> u64
         ensures { result ≡ length self.now.numbers * page_size }
     {
         self.numbers.len() as u64 * u64::from(page_size)
     }
 
-    /// How many pages the streams before the one with that number have: the start of its 256, and
-    /// the pages of those of them that come before it.
+    /// The number of pages of the streams before the one with that number: the start of its group
+    /// of 256, and the pages of the group's streams that come before it.
     #[tactic(auto, using(crate::proofs::Starts::starts_len, crate::proofs::Starts::start_at, crate::proofs::Starts::counted_at, crate::proofs::Starts::counted_none))]
     fn pages_before(&self, page_size: u32, number: u32) -> usize
         requires size { 0 < page_size }
@@ -133,7 +135,7 @@ impl Directory {
     }
 }
 
-/// How many streams the directory both counts and has sizes of.
+/// The number of streams that the directory both counts and has sizes of.
 #[tactic(auto, using(crate::proofs::Starts::counted_at, crate::proofs::Starts::counted_none))]
 fn counted(numbers: &PagedNumbers) -> usize
     ensures count { result ≡ counted_in numbers.now }
@@ -146,8 +148,8 @@ fn counted(numbers: &PagedNumbers) -> usize
     (numbers.at(0) as usize).min(numbers.len() - 1)
 }
 
-/// For the first of each 256 streams that the directory counts and has a size of, how many pages
-/// the streams before it have.
+/// The number of pages before each first of 256 streams that the directory counts and has a size
+/// of.
 #[tactic(auto, using(crate::proofs::Starts::starts_none, crate::proofs::Starts::starts_more))]
 fn starts_of(alloc: Global, page_size: u32, numbers: &PagedNumbers) -> Result<Vec<usize>>
     requires { 0 < page_size }
@@ -166,7 +168,8 @@ fn starts_of(alloc: Global, page_size: u32, numbers: &PagedNumbers) -> Result<Ve
     Ok(starts)
 }
 
-/// How many pages the streams from number `from` up to but not including `to` have, by their sizes.
+/// The number of pages of the streams from number `from` up to but not including `to`, by their
+/// sizes.
 #[tactic(auto, using(crate::proofs::Starts::pages_more))]
 fn pages_between(page_size: u32, numbers: &PagedNumbers, from: usize, to: usize) -> usize
     requires size { 0 < page_size }

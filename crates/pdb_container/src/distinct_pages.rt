@@ -12,11 +12,11 @@ use std::collections::BTreeMap;
 /// The pages to read for the first bytes of a list of pages.
 #[derive(Drop)]
 pub struct PagesToRead {
-    /// Their numbers.
+    /// The pages' numbers.
     pub pages: Vec<u32>,
-    /// For each page of the list its place among them, counted in pages.
+    /// The place of each page of the list among these pages, counted in pages.
     pub places: Vec<u32>,
-    /// How many of their bytes to read.
+    /// The number of the pages' bytes to read.
     pub size: usize,
 }
 

@@ -12,11 +12,11 @@ use std::alloc::{AllocError, AllocFailed};
 use std::io::ErrorKind;
 use std::{fmt, io};
 
-/// What a call on a program database returns.
+/// The result of a call on a program database.
 pub type Result<T> = std::result::Result<T, Error>;
 
-/// Why a call on a program database failed. It prints, by `Debug` too, as its variant's name and,
-/// in parentheses, its values.
+/// The cause for which a call on a program database failed. It prints, by `Debug` too, as its
+/// variant's name and, in parentheses, its values.
 #[derive(Clone, Copy, PartialEq, Eq)]
 pub enum Error {
     /// The file's first 4096 bytes are not there, or don't begin with the magic of a big MSF
@@ -74,7 +74,7 @@ pub enum Error {
     OutOfMemory,
 }
 
-/// Why a module's stream can't be read, as it is stored for later calls.
+/// The fault of a module's stream that can't be read, as it is stored for later calls.
 #[derive(Clone, Copy, PartialEq, Eq)]
 pub enum ModuleFault {
     /// The number of a stream that the MSF directory doesn't have.
@@ -105,7 +105,7 @@ impl fmt::Debug for Error {
 }
 
 impl Error {
-    /// What the fault prints.
+    /// The printed text of the fault.
     pub fn printed(&self) -> PrintedFault<'static>
         ensures { printed_text result ≡ error_text self.now }
     {
@@ -154,14 +154,14 @@ impl Error {
     }
 }
 
-/// What a fault with a number of 32 bits prints.
+/// The printed text of a fault with a number of 32 bits.
 fn number(name: &'static str, value: u32) -> PrintedFault<'static>
     ensures { printed_text result ≡ name.now ++ decimal value ++ codes ")" }
 {
     PrintedFault::number(name, u64::from(value))
 }
 
-/// What a stored fault of a module's stream prints, as an error.
+/// The printed text of a stored fault of a module's stream, as an error.
 #[tactic(auto, using(std::proofs::Common::append_assoc))]
 fn printed_kept(fault: ModuleFault) -> PrintedFault<'static>
     ensures { printed_text result ≡ codes "Kept(" ++ module_fault_text fault ++ codes ")" }
@@ -259,8 +259,8 @@ impl From<ModuleFault> for Error {
     }
 }
 
-/// The fault of a module's stream, as it is stored. Out of memory, and whatever else is no fault of
-/// a stream, stays an error.
+/// The fault of a module's stream, as it is stored. Out of memory, and any other error that is no
+/// fault of a stream, stays an error.
 impl TryFrom<Error> for ModuleFault {
     type Error = Error;
 

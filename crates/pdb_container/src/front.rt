@@ -1,4 +1,4 @@
-//! How an MSF container begins.
+//! The first bytes of an MSF container.
 
 ghost use Rattle.std.specs.Prelude.{◌≡◌, ◌≤◌, length, nat_eq};
 ghost use Rattle.std.specs.List.{starts_with};
@@ -6,7 +6,7 @@ ghost use Rattle.pdb_container.specs.Container.{magic, pages_end as end_in};
 
 use crate::numbers::word_at;
 
-/// How the header begins.
+/// The magic with which the header begins.
 const MAGIC: [u8; 32] = *b"Microsoft C/C++ MSF 7.00\r\n\x1aDS\0\0\0";
 
 /// Whether these bytes begin as a big MSF container does.
@@ -16,7 +16,7 @@ pub fn may_be_container(front: &[u8]) -> bool
     front.starts_with(&MAGIC)
 }
 
-/// The byte at which a container's pages end, by the number of pages used that its header states:
+/// The byte at which a container's pages end, from the number of pages used that its header states:
 /// no page number in range names a byte from there on.
 pub fn pages_end(header: &[u8]) -> u64
     requires { 44 ≤ length header.now }

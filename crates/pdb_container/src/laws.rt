@@ -21,8 +21,8 @@ use crate::source::SourceSlice;
 use crate::string_table::StringRef;
 use std::hash::Hash;
 
-/// What pages hold is so many bytes. Byte i is the file's byte in page number i / size, at i %
-/// size. Bytes of which this is true are what the pages hold.
+/// Pages hold so many bytes. Byte i is the file's byte in page number i / size, at i % size. Bytes
+/// of which this is true are the bytes that the pages hold.
 pub fn paged()
     ensures { (file pages bytes : List ℕ) (size count : ℕ)
         → (bytes_at file (page_places size pages count) ≡ Ok bytes)
@@ -52,8 +52,9 @@ pub fn page_layout()
     ensures at_every_number { (a b : List ℕ) → AreAlike a b → HaveSameStreams a b }
 {}
 
-/// What follows the pages that a header counts is part of no stream: with it and without it a file
-/// has the same header or fault of it, and the same streams, each with the same bytes or fault.
+/// The bytes after the pages that a header counts are part of no stream: with them and without them
+/// a file has the same header or fault of it, and the same streams, each with the same bytes or
+/// fault.
 pub fn tail_of_no_stream()
     ensures opens { (file tail : List ℕ) → 4096 ≤ length file
         → layout_of (file ++ tail) ≡ layout_of file }
@@ -78,8 +79,8 @@ pub fn equal_texts_hash_alike()
 {}
 
 /// Offsets of names, slices and stored faults are equal exactly where they are one and the same,
-/// and errors where they say the same fault, or both that memory ran out: `==` leaves out no part
-/// of them. Offsets come in the order of their numbers.
+/// and errors where they report the same fault, or both that memory ran out: `==` leaves out no
+/// part of them. Offsets come in the order of their numbers.
 pub fn equal_values_are_one()
     ensures offsets { (a b : Offset) → (⟦<StringRef as PartialEq>⟧.eq a b ≡ true) ↔ (a ≡ b) }
     ensures order { (a b : Offset) → ⟦<StringRef as Ord>⟧.cmp a b ≡ nat_cmp a.0 b.0 }

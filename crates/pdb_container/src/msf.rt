@@ -31,10 +31,10 @@ use std::io;
 use std::io::ErrorKind;
 use std::marker::{Model, PhantomData};
 
-/// How many bytes the header has before its list of pages.
+/// The number of bytes in the header before its list of pages.
 const HEADER_SIZE: usize = 52;
 
-/// How many bytes the header and its list of pages lie in.
+/// The number of bytes in which the header and its list of pages lie.
 const HEADER_VIEW: usize = 4096;
 
 /// The MSF header, as far as it is used: page size in bytes, pages used, directory size in bytes,
@@ -235,8 +235,8 @@ fn read_directory<S: Source>(
 
 /// The first bytes of a stream, by the directory or its fault. The source is asked whether all the
 /// pages of the stated size may be listed, whatever the limit, since all of them are. It is asked
-/// about no more than the directory has numbers for, so that one damaged size is still a fault of
-/// that stream alone.
+/// about no more pages than the directory has numbers for, so that one damaged size is still a
+/// fault of that stream alone.
 #[tactic(auto, using(crate::proofs::Outside::outside_alone), unfolding(crate::specs::Container::stream_in))]
 fn read_stream<S: Source>(
     source: &mut S,
@@ -410,8 +410,8 @@ pub trait Msf<'s, S: Source> {
 
     /// An MSF stream by its number, or its first `limit` bytes. It views the stream's own pages
     /// alone, unless the source failed each time that the directory was read before; then it reads
-    /// that first. A call that is refused changes no later result, unless the source counts what it
-    /// lists.
+    /// the directory first. A call that is refused changes no later result, unless the source
+    /// counts the pages that it lists.
     ///
     /// # Errors
     /// `StreamNotFound`, `PageReferenceOutOfRange`, `UnexpectedEof`; `IoError` past the file's end,

@@ -24,7 +24,7 @@ pub fn half_at(bytes: &[u8], at: usize) -> u16
     u16::from_le_bytes([bytes[at], bytes[at + 1]])
 }
 
-/// Where the first NUL is.
+/// The place of the first NUL.
 pub fn nul_in(bytes: &[u8]) -> Option<usize>
     ensures value { result ≡ position (λ byte. byte == 0) bytes.now }
     ensures within { IfSome result (λ n. n < length bytes.now) }
@@ -32,7 +32,7 @@ pub fn nul_in(bytes: &[u8]) -> Option<usize>
     bytes.iter().position(|byte| *byte == 0)
 }
 
-/// How many bytes lie from a place to the next multiple of 4.
+/// The number of bytes from a place to the next multiple of 4.
 pub fn padding_behind(place: usize) -> usize
     ensures { result ≡ padding place }
 {

@@ -44,7 +44,7 @@ impl PageList {
         }
     }
 
-    /// How many bytes the pages have, or were cut to.
+    /// The number of bytes that the pages have, or were cut to.
     pub fn len(&self) -> usize
         ensures { result ≡ length self.now.places }
     {

@@ -10,11 +10,11 @@ use crate::source::ReadView;
 use std::alloc::Global;
 use std::marker::Model;
 
-/// The numbers of the directory. Its pages are stored once each, however often it names one.
+/// The numbers of the directory. Its pages are stored once each, however often it names a page.
 #[derive(Drop)]
 pub struct PagedNumbers {
     page_size: u32,
-    /// For each page of the directory where it stands in the bytes, counted in pages.
+    /// The place of each page of the directory in the bytes, counted in pages.
     places: Vec<u32>,
     bytes: ReadView,
     count: usize,
@@ -45,7 +45,7 @@ impl PagedNumbers {
         }
     }
 
-    /// How many numbers there are.
+    /// The count of numbers.
     #[tactic(auto, using(crate::proofs::PagedNumbers::through_len))]
     pub fn len(&self) -> usize
         ensures count { result ≡ length self.now }

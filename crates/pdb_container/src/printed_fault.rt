@@ -1,11 +1,11 @@
-//! What a fault prints, in pieces, so that it can be written without memory.
+//! The printed text of a fault, in pieces, so that it can be written without memory.
 
 ghost use Rattle.std.specs.Prelude.{◌≡◌, ◌++◌, codes, decimal};
 ghost use Rattle.pdb_container.specs.PrintedFault.{piece_text, printed_text};
 
 use std::fmt;
 
-/// A piece of what a fault prints.
+/// A piece of a fault's printed text.
 #[derive(Clone, Copy)]
 pub enum PrintedPiece<'t> {
     /// A text as it is.
@@ -28,22 +28,23 @@ impl<'t> fmt::Display for PrintedPiece<'t> {
     }
 }
 
-/// What a fault prints: its name, its values with what stands between them, and what ends it.
+/// The printed text of a fault: its name, its values with the texts between them, and the text at
+/// the end.
 #[derive(Clone, Copy)]
 pub struct PrintedFault<'t> {
-    /// The name, with what opens the values.
+    /// The name, with the text that opens the values.
     pub name: &'static str,
     /// The first value.
     pub first: PrintedPiece<'t>,
-    /// What stands between the first value and the second.
+    /// The text between the first value and the second.
     pub between: &'static str,
     /// The second value.
     pub second: PrintedPiece<'t>,
-    /// What stands between the second value and the third.
+    /// The text between the second value and the third.
     pub before_third: &'static str,
     /// The third value.
     pub third: PrintedPiece<'t>,
-    /// What closes the values.
+    /// The text that closes the values.
     pub end: &'static str,
 }
 
@@ -61,14 +62,14 @@ impl<'t> fmt::Display for PrintedFault<'t> {
 }
 
 impl<'t> PrintedFault<'t> {
-    /// What a fault without values prints.
+    /// The printed text of a fault without values.
     pub fn plain(name: &'static str) -> PrintedFault<'t>
         ensures { printed_text result ≡ name.now }
     {
         PrintedFault::value(name, PrintedPiece::Text(""), "")
     }
 
-    /// What a fault with a value prints.
+    /// The printed text of a fault with a value.
     pub fn value(name: &'static str, value: PrintedPiece<'t>, end: &'static str) -> PrintedFault<'t>
         ensures { printed_text result ≡ name.now ++ piece_text value.entry ++ end.now }
     {
@@ -83,21 +84,21 @@ impl<'t> PrintedFault<'t> {
         }
     }
 
-    /// What a fault with a text prints.
+    /// The printed text of a fault with a text.
     pub fn text(name: &'static str, value: &'t str) -> PrintedFault<'t>
         ensures { printed_text result ≡ name.now ++ value.now ++ codes ")" }
     {
         PrintedFault::value(name, PrintedPiece::Text(value), ")")
     }
 
-    /// What a fault with a number prints.
+    /// The printed text of a fault with a number.
     pub fn number(name: &'static str, value: u64) -> PrintedFault<'t>
         ensures { printed_text result ≡ name.now ++ decimal value ++ codes ")" }
     {
         PrintedFault::value(name, PrintedPiece::Number(value), ")")
     }
 
-    /// What a fault with two numbers prints.
+    /// The printed text of a fault with two numbers.
     pub fn numbers(name: &'static str, first: u64, second: u64) -> PrintedFault<'t>
         ensures { printed_text result
             ≡ name.now ++ decimal first ++ codes ", " ++ decimal second ++ codes ")" }
@@ -113,7 +114,7 @@ impl<'t> PrintedFault<'t> {
         }
     }
 
-    /// What a fault with three numbers prints.
+    /// The printed text of a fault with three numbers.
     pub fn three(name: &'static str, first: u64, second: u64, third: u64) -> PrintedFault<'t>
         ensures { printed_text result ≡ name.now ++ decimal first ++ codes ", " ++ decimal second
             ++ codes ", " ++ decimal third ++ codes ")" }

@@ -12,8 +12,8 @@ use std::alloc::Global;
 use std::borrow::CowStr;
 use std::fmt;
 
-/// A raw string: a text whose encoding isn't known, mostly UTF-8, as the name of a symbol, a type,
-/// a module or a file. It prints as UTF-8 with U+FFFD for what is no character.
+/// A raw string: a text whose encoding isn't known, mostly UTF-8, such as the name of a symbol, a
+/// type, a module or a file. It prints as UTF-8 with U+FFFD for what is no character.
 #[derive(Clone, Copy, PartialEq, Eq, Hash)]
 pub struct RawString<'b>(&'b [u8]);
 
@@ -41,7 +41,7 @@ impl<'b> RawString<'b> {
         self.0
     }
 
-    /// How many bytes.
+    /// The number of bytes.
     pub fn len(&self) -> usize
         ensures { result ≡ length (raw_bytes self.now) }
     {

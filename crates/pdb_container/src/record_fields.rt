@@ -29,7 +29,7 @@ impl FromBuffer for IdIndex {
     }
 }
 
-/// A name in a record with that leaf: a C string above 0x1500, else a Pascal string.
+/// A name in a record with that leaf: a C string above 0x1500, otherwise a Pascal string.
 ///
 /// # Errors
 /// `UnexpectedEof` where the C string has no NUL, or bytes of the Pascal string are missing.

@@ -11,9 +11,9 @@ use std::sync::Arc;
 #[derive(Debug, Drop)]
 pub struct SharedBytes {
     whole: Arc<Vec<u8>>,
-    /// Where the range begins in the buffer, in bytes.
+    /// The range's start in the buffer, in bytes.
     start: usize,
-    /// How many bytes the range has.
+    /// The number of bytes in the range.
     len: usize,
 }
 

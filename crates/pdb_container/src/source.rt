@@ -1,4 +1,4 @@
-//! Sources: where a container's bytes come from.
+//! Sources of a container's bytes.
 
 ghost use Rattle.std.specs.Prelude.{◌≡◌, ℕ, ◌+◌, ◌≤◌, ◌-◌, ◌^◌, List, length, min, is_ok, IsOk};
 ghost use Rattle.std.specs.Prelude.{IfSome, IfOk, IfErr, ◌⊎◌};
@@ -15,9 +15,9 @@ use std::marker::Model;
 /// A slice of a source: some bytes, one after the other.
 #[derive(Clone, Copy, Debug, PartialEq, Eq)]
 pub struct SourceSlice {
-    /// Where they begin, in bytes from the source's beginning.
+    /// The start of the slice, in bytes from the source's beginning.
     pub offset: u64,
-    /// How many bytes there are.
+    /// The number of bytes.
     pub size: usize,
 }
 
@@ -65,7 +65,7 @@ pub trait Source {
     /// The bytes, which no call changes.
     ghost bytes: { Self → List ℕ };
 
-    /// How often a view failed otherwise than by memory or past the end.
+    /// The number of views that failed otherwise than by memory or past the end.
     ghost failures: { Self → ℕ };
 
     /// The bytes at the slices, joined.
@@ -81,7 +81,8 @@ pub trait Source {
             (λ e. IsOutside (error_of e) (HasRisen (failures self.old) (failures self.new))
             ⊎ (bytes_at (bytes self.old) (places_of slices.now) ≡ Err (fault_of (error_of e)))) };
 
-    /// How often a view failed otherwise than by memory or past the end; at `u64::MAX` it stays.
+    /// The number of views that failed otherwise than by memory or past the end; at `u64::MAX` it
+    /// stays.
     fn failures(&self) -> u64
         ensures { result ≡ failures self.now };
 
@@ -199,7 +200,7 @@ fn copy_slices(alloc: Global, file: &[u8], slices: &[SourceSlice]) -> io::Result
     Ok(view)
 }
 
-/// How many bytes the slices have, at most `usize::MAX`; `None` where one doesn't lie within the
+/// The number of bytes of the slices, at most `usize::MAX`; `None` where one doesn't lie within the
 /// file.
 #[tactic(auto, using(crate::proofs::Bytes::within_more, crate::proofs::Bytes::within_fail, crate::proofs::Bytes::within_done, crate::proofs::Slices::places_len_more))]
 pub fn size_within(file: &[u8], slices: &[SourceSlice]) -> Option<usize>

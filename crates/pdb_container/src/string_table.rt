@@ -16,14 +16,14 @@ use std::alloc::Global;
 use std::borrow::CowStr;
 use std::marker::Model;
 
-/// How the table's stream begins.
+/// The signature with which the table's stream begins.
 const SIGNATURE: u32 = 0xeffe_effe;
 
-/// How many bytes lie before the names.
+/// The number of bytes before the names.
 const HEADER_SIZE: usize = 12;
 
-/// An offset into the string table (`/names`): where a name begins among the table's names, in
-/// bytes.
+/// An offset into the string table (`/names`): the place at which a name begins among the table's
+/// names, in bytes.
 #[derive(Clone, Copy, Debug, PartialEq, Eq, PartialOrd, Ord, Hash)]
 pub struct StringRef(pub u32);
 
@@ -111,7 +111,7 @@ impl StringRef {
     }
 }
 
-/// How many bytes the names of a table have that these bytes are.
+/// The number of bytes that the names have in the table of these bytes.
 #[tactic(auto, using(crate::proofs::Names::names_short, crate::proofs::Names::names_unknown, crate::proofs::Names::names_missing, crate::proofs::Names::names_there))]
 fn names_size(bytes: &[u8]) -> Result<usize>
     ensures value { Parses (λ size. take size (drop 12 bytes.now)) result (names_of bytes.now) }

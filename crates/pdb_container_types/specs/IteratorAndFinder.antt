@@ -1,4 +1,4 @@
--- What is known of an iterator and of a finder, and what they return.
+-- The state of an iterator and of a finder, and their answers.
 use Rattle.std.specs.Prelude.{ℕ, ◌+◌, ◌-◌, ◌*◌, ◌^◌, List, min, Bool, true, false, nat_lt, ◌==◌}
 use Rattle.std.specs.Prelude.{◌||◌, if◌then◌else◌, Option, Some, None, Result, Ok, Err}
 use Rattle.pdb_container.specs.Fault.{Fault, TypeNotIndexed}
@@ -18,13 +18,13 @@ pub record ItemIteration : Type 0 where
 abbrev pub fresh_iteration : Table → ItemIteration
 fresh_iteration t = record { table = t; index = t.minimum; progress = progress.Reading }
 
--- what is returned at an index, by how far the iteration has come; after an end nothing
+-- the answer at an index, by the iteration's progress; after an end nothing
 abbrev pub answer_in_progress : Progress → Table → ℕ → Result (Option (List ℕ)) Fault
 answer_in_progress progress.Reading t index = item_number (items_of t) (index - t.minimum)
 answer_in_progress progress.Ended t index = Ok None
 answer_in_progress progress.Failed t index = Ok None
 
--- what an iterator returns next: an item, the end, or the fault at which the list ends; after an
+-- the next answer of an iterator: an item, the end, or the fault at which the list ends; after an
 -- end nothing
 abbrev pub next_answer : ItemIteration → Result (Option (List ℕ)) Fault
 next_answer it = answer_in_progress it.progress it.table it.index
@@ -35,19 +35,19 @@ at_end progress.Reading = progress.Ended
 at_end progress.Ended = progress.Ended
 at_end progress.Failed = progress.Failed
 
--- the index of the next item, after what was returned
+-- the index of the next item, after an answer
 abbrev pub index_behind : ℕ → Result (Option (List ℕ)) Fault → ℕ
 index_behind index (Ok (Some item)) = index + 1
 index_behind index (Ok None) = index
 index_behind index (Err e) = index
 
--- the progress after what was returned
+-- the progress after an answer
 abbrev pub progress_behind : Progress → Result (Option (List ℕ)) Fault → Progress
 progress_behind p (Ok (Some item)) = p
 progress_behind p (Ok None) = at_end p
 progress_behind p (Err e) = progress.Failed
 
--- what is known after what was returned
+-- the iteration after an answer
 abbrev pub iteration_behind : ItemIteration → Result (Option (List ℕ)) Fault → ItemIteration
 iteration_behind it answer =
     record {
@@ -74,7 +74,7 @@ answered_end it = if ended_well it.progress then Some (past_list it.table) else 
 
 -- ---- a finder
 
--- a table, how many of its blocks of eight indices are known, and whether the end of its list is
+-- a table, the number of its known blocks of eight indices, and whether the end of its list is
 -- known
 pub record Finding : Type 0 where
   pub table : Table
@@ -98,7 +98,7 @@ last_known f = min (first_unknown f - 1) (2 ^ 32 - 1)
 abbrev pub known_end : Finding → Option ℕ
 known_end f = if f.is_end_known then Some (past_list f.table) else None
 
--- what is known once an iterator was shown
+-- the finding once an iterator was shown
 abbrev pub shown : ItemIteration → Finding → Finding
 shown it f = record {
   table = f.table;

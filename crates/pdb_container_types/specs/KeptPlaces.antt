@@ -1,4 +1,4 @@
--- How items are reached: what the code stores of a table, and what one step gives.
+-- The places by which items are reached: those that the code stores of a table, and single steps.
 use Rattle.std.specs.Prelude.{◌≡◌, ℕ, ◌+◌, ◌-◌, ◌*◌, ◌/◌, ◌^◌, ◌<◌, ◌≤◌, List, length, drop, Bool}
 use Rattle.std.specs.Prelude.{true, false, Option, Some, None, Result, Ok, Err}
 use Rattle.std.specs.List.{slice_index}
@@ -50,8 +50,8 @@ abbrev pub IsEnd : Table → Option ℕ → Type 0
 IsEnd t (Some end) = end ≡ past_list t
 IsEnd t None = Unit {0}
 
--- what a finder stores of its table: the places of its known blocks, with room for those of all
--- blocks, and the end
+-- the values that a finder stores of its table: the places of its known blocks, with room for those
+-- of all blocks, and the end
 pub record IsKeptOfTable (t : Table) (places : List ℕ) (capacity blocks : ℕ) (end : Option ℕ) :
     Type 0 where
   pub some : 1 ≤ blocks
@@ -60,7 +60,7 @@ pub record IsKeptOfTable (t : Table) (places : List ℕ) (capacity blocks : ℕ)
   pub known : ArePlaces t places blocks
   pub right : IsEnd t end
 
--- what is seen of an item that may be there
+-- the view of an item that may be there
 abbrev pub seen : {X : Type 0} → (X → List ℕ) → Option X → Option (List ℕ)
 seen view (Some x) = Some (view x)
 seen view None = None

@@ -34,7 +34,7 @@ impl<'t, I: ItemIndex> Item<'t, I> {
         self.index
     }
 
-    /// How many bytes the record has.
+    /// The number of bytes of the record.
     pub fn len(&self) -> usize
         ensures { result ≡ length (item_bytes self.now) }
     {
@@ -55,7 +55,7 @@ impl<'t, I: ItemIndex> Item<'t, I> {
         self.bytes
     }
 
-    /// The leaf (`LF_*`), which says what form the item has.
+    /// The leaf (`LF_*`), which decides the item's form.
     ///
     /// # Errors
     /// `UnexpectedEof` where its two bytes are missing.
@@ -67,7 +67,7 @@ impl<'t, I: ItemIndex> Item<'t, I> {
 }
 
 impl<'t> Item<'t, TypeIndex> {
-    /// What the type is: below index 0x1000 by the index alone, and else by the record.
+    /// The type: below index 0x1000 from the index alone, and otherwise from the record.
     ///
     /// # Errors
     /// `TypeNotFound` below 0x1000, `UnimplementedTypeKind` for a leaf without a form,
@@ -85,7 +85,7 @@ impl<'t> Item<'t, TypeIndex> {
 }
 
 impl<'t> Item<'t, IdIndex> {
-    /// What the id is, by its record.
+    /// The id, from its record.
     ///
     /// # Errors
     /// `UnimplementedTypeKind` for a leaf without a form, `UnexpectedEof` for a record that can't

@@ -89,7 +89,7 @@ impl<'t, I: ItemIndex> ItemFinder<'t, I> {
 
     /// Learns from an iterator over the same table. If the iterator stands at the first unknown
     /// index, the finder stores the place of that block. If the iterator has returned the end of
-    /// the list, it stores that.
+    /// the list, the finder stores the end.
     pub fn update(&mut self, iterator: &ItemIter<'_, I>)
         requires { iterator.now.table ≡ self.old.table }
         ensures { self.new ≡ shown iterator.now self.old }

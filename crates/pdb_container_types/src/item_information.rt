@@ -90,7 +90,7 @@ impl<'s, I: ItemIndex> ItemInformation<'s, I> {
         I::from(self.header.maximum_index)
     }
 
-    /// How many indices the table has, by its header.
+    /// The number of indices of the table, by its header.
     pub fn len(&self) -> usize
         ensures { result ≡ self.now.maximum - self.now.minimum }
     {

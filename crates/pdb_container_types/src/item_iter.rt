@@ -16,7 +16,7 @@ use crate::item_list::next_piece;
 use pdb_container::{Error, FallibleIterator, ItemIndex, ParseBuffer, Result};
 use std::marker::{Model, PhantomData};
 
-/// How far an iterator over items has come.
+/// The progress of an iterator over items.
 #[derive(Clone, Copy, Debug, PartialEq, Eq)]
 pub enum Progress {
     /// No end was returned.

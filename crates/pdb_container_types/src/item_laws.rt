@@ -12,7 +12,7 @@ use crate::item_iter::ItemIter;
 use pdb_container::{ItemIndex, Result};
 
 /// An index that a finder knows has one answer, by the whole table, whatever is shown to the finder
-/// in between. What was shown is known from then on.
+/// in between. Whatever was shown is known from then on.
 ///
 /// # Errors
 /// Both answers are the fault that the table has at that index.

@@ -6,8 +6,8 @@ use Rattle.pdb_contributions.specs.declared.contribution.ModuleSectionContributi
   ModuleSectionContribution,
 }
 
--- A bound's number: each section has 2^34 of them, so that none of another section is as near as 32
--- bits reach.
+-- A bound's number: each section has 2^34 of them, so that no number of another section is as near
+-- as 32 bits reach.
 abbrev pub bound_number : ℕ → ℕ → ℕ
 bound_number section offset = section * 2 ^ 34 + min offset (2 ^ 34 - 1)
 

@@ -1,5 +1,5 @@
--- How contributions are searched: by pieces of places, with the number of the one that holds each,
--- and by sorted bounds, or among contributions that lie apart.
+-- The search of contributions: by pieces of places, with the number of the one that holds each, and
+-- by sorted bounds, or among contributions that lie apart.
 use Rattle.std.specs.Prelude.{◌≡◌, ℕ, ◌+◌, ◌^◌, ◌<◌, ◌≤◌, List, [], ◌∷◌, slice_get, Option, None}
 use Rattle.std.specs.Prelude.{Some, option_and_then}
 use Rattle.pdb_addresses.specs.declared.internal_section_offset.PdbInternalSectionOffset.{
@@ -22,7 +22,7 @@ start_number c = place_number (record { section = c.section_index; offset = c.st
 abbrev pub end_number : ModuleSectionContribution → ℕ
 end_number c = place_number (record { section = c.section_index; offset = c.end_offset })
 
--- what a contribution holds; all of one rank, so that the first counts
+-- the span that a contribution holds; all spans have one rank, so that the first counts
 abbrev pub contribution_span : ℕ → ModuleSectionContribution → Span
 contribution_span number c =
     record {
@@ -31,7 +31,7 @@ contribution_span number c =
       mark = record { rank = 0; value = number };
     }
 
--- what contributions hold, of which the first has this number
+-- the spans that contributions hold, of which the first has this number
 abbrev pub contribution_spans : ℕ → List ModuleSectionContribution → List Span
 contribution_spans number [] = []
 contribution_spans number (c ∷ others) = contribution_span number c
@@ -41,7 +41,7 @@ contribution_spans number (c ∷ others) = contribution_span number c
 abbrev pub IsShort : ModuleSectionContribution → Type 0
 IsShort c = (c.start_offset < 2 ^ 32) × (c.end_offset < 2 ^ 32)
 
--- each is so short
+-- start and end of each contribution have 32 bits
 abbrev pub AreShort : List ModuleSectionContribution → Type 0
 AreShort [] = Unit {0}
 AreShort (c ∷ others) = IsShort c × AreShort others
@@ -54,7 +54,7 @@ pub record StandFor (pieces : List Span) (contributions : List ModuleSectionCont
       ≡ holder contributions place
 
 -- contributions in ascending order by their places, none before `low`, each of which begins where
--- the one before it ends or after that; none ends before it begins
+-- the one before it ends or after that; no contribution ends before it begins
 abbrev pub AreApart : ℕ → List ModuleSectionContribution → Type 0
 AreApart low [] = Unit {0}
 AreApart low (c ∷ others) = (low ≤ start_number c) × (start_number c ≤ end_number c)

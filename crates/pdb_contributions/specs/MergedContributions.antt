@@ -1,5 +1,5 @@
--- What modules hold of sections: the section contributions of the DBI stream that count, merged.
--- Which entries count and merge, and what is refused, is what the pdb-addr2line crate does; here an
+-- The contributions of modules: the section contributions of the DBI stream that count, merged.
+-- The rules by which entries count, merge and are refused are the pdb-addr2line crate's; here an
 -- end past 32 bits is cut.
 use Rattle.std.specs.Prelude.{◌≡◌, ℕ, ◌+◌, ◌-◌, ◌^◌, Bool, false, ◌&&◌, min, List, [], ◌∷◌, ◌++◌, map}
 use Rattle.std.specs.Prelude.{drop, nat_lt, nat_le, ◌==◌, Option, None, Some, Result, Ok, Err}
@@ -46,7 +46,7 @@ abbrev pub kept_entries : List ImageSectionHeader → List DBISectionContributio
     → List DBISectionContribution
 kept_entries sections entries = filter (is_kept sections) entries
 
--- what an entry holds; an end past 32 bits is cut
+-- the contribution of an entry; an end past 32 bits is cut
 abbrev pub span_of : DBISectionContribution → ModuleSectionContribution
 span_of c =
     record {
@@ -58,7 +58,7 @@ span_of c =
 
 -- ---- consecutive entries of one module and section
 
--- of one module and section
+-- whether two contributions are of one module and section
 abbrev pub is_of_same : ModuleSectionContribution → ModuleSectionContribution → Bool
 is_of_same a b = (a.section_index == b.section_index) && (a.module_index == b.module_index)
 
@@ -82,8 +82,9 @@ abbrev pub all_before : List ModuleSectionContribution
     → Result (List ModuleSectionContribution) Fault → Result (List ModuleSectionContribution) Fault
 all_before front others = others >>= λ all. Ok (front ++ all)
 
--- A contribution and those after it, of which consecutive ones of one module and section are one:
--- from the first one's start to the last one's end. None of these may end before the one before it.
+-- A contribution and those after it, where consecutive contributions of one module and section are
+-- one: from the first one's start to the last one's end. None of these may end before the one
+-- before it.
 abbrev pub merged_from : ModuleSectionContribution → List ModuleSectionContribution
     → Result (List ModuleSectionContribution) Fault
 merged_from c [] = Ok (c ∷ [])
@@ -101,14 +102,14 @@ merged (c ∷ others) = merged_from c others
 
 -- ---- order
 
--- by section, start, end and module
+-- the order of contributions by section, start, end and module
 abbrev pub contribution_cmp : ModuleSectionContribution → ModuleSectionContribution → Ordering
 contribution_cmp a b =
     ordering_then (nat_cmp a.section_index b.section_index)
     (ordering_then (nat_cmp a.start_offset b.start_offset)
     (ordering_then (nat_cmp a.end_offset b.end_offset) (nat_cmp a.module_index b.module_index)))
 
--- one begins before the end of the one before it, in one section
+-- whether a contribution begins before the end of the one before it, in one section
 abbrev pub overlaps : ModuleSectionContribution → ModuleSectionContribution → Bool
 overlaps a b = (b.section_index == a.section_index) && nat_lt b.start_offset a.end_offset
 
@@ -127,8 +128,8 @@ abbrev pub apart : List ModuleSectionContribution → Result (Unit {0}) Fault
 apart [] = Ok tt
 apart (c ∷ others) = apart_behind c others
 
--- With whatever follows, contributions and the one that is merged further are what others and the
--- one before the next were.
+-- Merged contributions and the current one give, with whatever follows, the same list as those in
+-- front, the last one and the next one.
 abbrev pub MergesInto : List ModuleSectionContribution → ModuleSectionContribution
     → ModuleSectionContribution → List ModuleSectionContribution → ModuleSectionContribution
     → Type 0
@@ -137,24 +138,25 @@ MergesInto front last next merged current =
     → all_before merged (merged_from current others)
     ≡ all_before front (merged_from last (next ∷ others))
 
--- with whatever follows, merging the next contribution fails
+-- merging the next contribution fails, with whatever follows
 abbrev pub FailsToMerge : ModuleSectionContribution → ModuleSectionContribution → Error → Type 0
 FailsToMerge last next e =
     (others : List ModuleSectionContribution) → Fails e (merged_from last (next ∷ others))
 
--- ---- what modules hold
+-- ---- the contributions of modules
 
--- what modules hold, in order; and where the entries that count begin, but for the first
+-- the contributions of modules, in order; and the starts of the entries that count, but for the
+-- first
 pub record Held : Type 0 where
   pub contributions : List ModuleSectionContribution
   pub later_starts : List PdbInternalSectionOffset
 
--- where entries begin, but for the first
+-- the starts of entries, but for the first
 abbrev pub later_starts_of : List DBISectionContribution → List PdbInternalSectionOffset
 later_starts_of entries = map (λ c. c.offset) (drop 1 entries)
 
--- What modules hold by the entries of a list, in its order, and by its end: an entry that ends
--- before the ones with which it merges comes before the list's fault.
+-- The contributions of modules from the entries of a list, in its order, and from its end: an entry
+-- that ends before those with which it merges comes before the list's fault.
 abbrev pub merged_by : List ImageSectionHeader → Listing DBISectionContribution → Result Held Fault
 merged_by sections entries = do
   contributions ← merged (map span_of (kept_entries sections entries.items))
@@ -164,7 +166,7 @@ merged_by sections entries = do
     later_starts = later_starts_of (kept_entries sections entries.items);
   }
 
--- what modules hold, in order and without overlaps
+-- the contributions of modules, in order and without overlaps
 abbrev pub in_order_apart : Held → Result Held Fault
 in_order_apart held = do
   checked ← apart (in_order contribution_cmp held.contributions)
@@ -173,13 +175,13 @@ in_order_apart held = do
     later_starts = held.later_starts;
   }
 
--- What modules hold by the entries of a list, and by its end; an overlap is reported after the
--- faults of these.
+-- The contributions of modules from the entries of a list, and from its end; an overlap is reported
+-- after the faults of these.
 unfoldable pub held_by : List ImageSectionHeader → Listing DBISectionContribution
     → Result Held Fault
 held_by sections entries = merged_by sections entries >>= in_order_apart
 
--- what modules hold by the contributions of the DBI stream
+-- the contributions of modules from the section contributions of the DBI stream
 unfoldable pub held_of : List ImageSectionHeader → List ℕ → Result Held Fault
 held_of sections bytes = lifted (contributions_of bytes) >>= held_by sections
 
@@ -190,7 +192,7 @@ abbrev pub holds : PdbInternalSectionOffset → ModuleSectionContribution → Bo
 holds p c = (c.section_index == p.section)
     && (nat_le c.start_offset p.offset && nat_lt p.offset c.end_offset)
 
--- by what a module holds a place
+-- the first contribution that holds a place
 abbrev pub holder : List ModuleSectionContribution → PdbInternalSectionOffset
     → Option ModuleSectionContribution
 holder contributions p = find (holds p) contributions

@@ -1,5 +1,6 @@
 -- The public list: names and placeholders by the places at which functions may begin.
--- What stands in it, and which of one place counts, is what the pdb-addr2line crate does.
+-- The rules by which entries are put into it, and by which one of a place counts, are the
+-- pdb-addr2line crate's.
 use Rattle.std.specs.Prelude.{◌≡◌, ℕ, zero, suc, ◌+◌, ◌<◌, ◌≤◌, Bool, true, false, length, ◌&&◌}
 use Rattle.std.specs.Prelude.{◌||◌, not, List, [], ◌∷◌, ◌++◌, map, is_some, IsTrue, slice_get}
 use Rattle.std.specs.Prelude.{nat_lt, nat_le, ◌==◌, Option, None, Some, Result, Ok, if◌then◌else◌}
@@ -19,19 +20,19 @@ use Rattle.pdb_symbol_records.specs.Records.{symbol_form_of}
 use Rattle.pdb_symbol_records.specs.Symbols.{Symbol}
 use Rattle.pdb_contributions.specs.MergedContributions.{is_executable}
 
--- an entry of the public list: where a function may begin, and its name as it is stored; a
--- placeholder has none
+-- an entry of the public list: the place at which a function may begin, and its name as it is
+-- stored; a placeholder has no name
 pub record PublicFunction : Type 0 where
   pub start_offset : PdbInternalSectionOffset
   pub name : Option (List ℕ)
 
--- ---- what is put into the list
+-- ---- the entries that are put into the list
 
 -- a place without a name
 abbrev pub placeholder : PdbInternalSectionOffset → PublicFunction
 placeholder p = record { start_offset = p; name = None }
 
--- what a symbol says, if it is a public one
+-- the form of a public symbol, if a symbol is one
 abbrev pub as_public : Result SymbolForm container.Fault → Option PublicForm
 as_public (Ok (forms.Public p)) = Some p
 as_public other = None
@@ -44,12 +45,12 @@ entry_of_public sections (Some p) =
     then record { start_offset = p.offset; name = Some p.name } ∷ []
     else []
 
--- what a symbol adds to the list
+-- the entries that a symbol adds to the list
 abbrev pub entry_of_symbol : List ImageSectionHeader → Symbol → List PublicFunction
 entry_of_symbol sections s = entry_of_public sections (as_public (symbol_form_of s))
 
--- the entries of symbols: of the public ones that can be read and lie in sections in which code may
--- run
+-- the entries of symbols: of the public symbols that can be read and lie in sections in which code
+-- may run
 abbrev pub entries_of_symbols : List ImageSectionHeader → List Symbol → List PublicFunction
 entries_of_symbols sections symbols = flat_map (entry_of_symbol sections) symbols
 
@@ -93,7 +94,7 @@ is_before a b = nat_lt a.section b.section || ((a.section == b.section) && nat_l
 abbrev pub is_named : PublicFunction → Bool
 is_named f = is_some f.name
 
--- of two entries of a place the first, unless the second alone has a name
+-- the first of two entries of a place, unless the second alone has a name
 abbrev pub preferred : PublicFunction → PublicFunction → PublicFunction
 preferred first second = if not (is_named first) && is_named second then second else first
 
@@ -111,12 +112,12 @@ abbrev pub publics_among : List PublicFunction → List PublicFunction
 publics_among [] = []
 publics_among (f ∷ others) = with_entry f (publics_among others)
 
--- in a list an entry of another one's place stands, and it has a name if that one has
+-- an entry of another one's place stands in a list, and it has a name if the other one has
 abbrev pub StandsNamed : PublicFunction → List PublicFunction → Type 0
 StandsNamed f list = (i : ℕ) × (a : PublicFunction) × (slice_get list i ≡ Some a)
     × (a.start_offset ≡ f.start_offset) × (IsTrue (is_named f) → IsTrue (is_named a))
 
--- each given entry stands in a list so
+-- an entry of each given entry's place stands in a list, and it has a name if the given one has
 abbrev pub StandNamed : List PublicFunction → List PublicFunction → Type 0
 StandNamed given list =
     (k : ℕ) (f : PublicFunction) → slice_get given k ≡ Some f → StandsNamed f list
@@ -127,8 +128,8 @@ abbrev pub public_list : List PublicFunction → List PdbInternalSectionOffset
 public_list entries starts sections =
     publics_among (entries ++ placeholders starts ++ section_ends sections)
 
--- the public list: public symbols, then placeholders where contributions begin, then placeholders
--- at sections' ends
+-- the public list: public symbols, then placeholders at the starts of contributions, then
+-- placeholders at sections' ends
 
 abbrev pub publics : List ImageSectionHeader → List Symbol → List PdbInternalSectionOffset
     → List PublicFunction
@@ -193,8 +194,8 @@ pub record Rises (list : List PublicFunction) : Type 0 where
   pub each : (i j : ℕ) (a b : PublicFunction) → i < j → slice_get list i ≡ Some a
       → slice_get list j ≡ Some b → IsTrue (is_before a.start_offset b.start_offset)
 
--- that many entries begin at a place or before it, in its section or in one before; those after
--- them begin after it
+-- that many entries begin at a place or before it, in its section or in one before; the entries
+-- after them begin after it
 pub record IsSplit (list : List PublicFunction) (p : PdbInternalSectionOffset) (count : ℕ) :
     Type 0 where
   pub bound : count ≤ length list

@@ -1,4 +1,4 @@
--- Where contributions begin and end in one section.
+-- The starts and ends of contributions in one section.
 use Rattle.std.specs.Prelude.{ℕ, Bool, ◌==◌, List, [], ◌∷◌, Option, None, Some, if◌then◌else◌}
 use Rattle.pdb_addresses.specs.declared.internal_section_offset.PdbInternalSectionOffset.{
   PdbInternalSectionOffset,
@@ -7,11 +7,11 @@ use Rattle.pdb_contributions.specs.declared.contribution.ModuleSectionContributi
   ModuleSectionContribution,
 }
 
--- where something begins and ends, if it lies in the section that is asked for
+-- a start and an end, if they lie in the section that is asked for
 abbrev pub if_there : Bool → ℕ → ℕ → List ℕ
 if_there same start end = if same then start ∷ end ∷ [] else []
 
--- where a contribution begins and ends, if it lies in the section of a place
+-- the start and the end of a contribution, if it lies in the section of a place
 abbrev pub contribution_bounds : PdbInternalSectionOffset → ModuleSectionContribution → List ℕ
 contribution_bounds p c = if_there (c.section_index == p.section) c.start_offset c.end_offset
 

@@ -1,4 +1,4 @@
--- What modules hold of sections where the entries of the DBI stream may stand in any order. GNU ld
+-- The contributions of modules where the entries of the DBI stream may stand in any order. GNU ld
 -- before 2.44 doesn't sort them.
 use Rattle.std.specs.Prelude.{◌≡◌, ℕ, Bool, true, false, List, [], ◌∷◌, map, Result, Ok, Err}
 use Rattle.std.specs.Prelude.{option_map}
@@ -28,8 +28,9 @@ abbrev pub unless_first : List ModuleSectionContribution → PdbInternalSectionO
 unless_first [] start = []
 unless_first (c ∷ front) start = start ∷ []
 
--- What modules hold by the entries of a list that has an end: each that counts as it stands, in the
--- order of the file. So the `holder` of a place is the first entry that holds it.
+-- The contributions of modules from the entries of a list that has an end: each entry that counts
+-- as it stands, in the order of the file. So the `holder` of a place is the first entry that holds
+-- it.
 abbrev pub unmerged_by : List ImageSectionHeader → Listing DBISectionContribution
     → Result Held Fault
 unmerged_by sections entries = do
@@ -39,29 +40,30 @@ unmerged_by sections entries = do
     later_starts = later_starts_of (kept_entries sections entries.items);
   }
 
--- a module holds each place by what the first of a list's entries holds that counts and holds the
--- place
+-- the holder of each place is the contribution of the first of a list's entries that counts and
+-- holds the place
 abbrev pub HoldByFirst : List ImageSectionHeader → Listing DBISectionContribution → Held → Type 0
 HoldByFirst sections entries held =
     (place : PdbInternalSectionOffset) → holder held.contributions place
     ≡ option_map span_of (find (λ c. holds place (span_of c)) (kept_entries sections entries.items))
 
--- what modules hold by the contributions of the DBI stream, each as it stands
+-- the contributions of modules from those of the DBI stream, each as it stands
 
 abbrev pub unmerged_of : List ImageSectionHeader → List ℕ → Result Held Fault
 unmerged_of sections bytes = lifted (contributions_of bytes) >>= unmerged_by sections
 
--- a call refuses what modules hold for the order of the entries
+-- a call refuses the contributions of modules for the order of the entries
 abbrev pub is_for_order : Result Held Error → Bool
 is_for_order (Err (errors.UnorderedSectionContributions m s)) = true
 is_for_order r = false
 
--- what modules hold, or another reading where it is refused for the order of the entries
+-- the contributions of modules, or another reading where they are refused for the order of the
+-- entries
 abbrev pub unless_unordered : Result Held Fault → Result Held Fault → Result Held Fault
 unless_unordered (Err (UnorderedSectionContributions m s)) other = other
 unless_unordered held other = held
 
--- What modules hold by the contributions of the DBI stream, in any order: as they are merged, or
+-- The contributions of modules from those of the DBI stream, in any order: as they are merged, or
 -- each as it stands where merging is refused for their order.
 unfoldable pub held_in_any_order : List ImageSectionHeader → List ℕ → Result Held Fault
 held_in_any_order sections bytes =

@@ -1,4 +1,4 @@
-//! A section contribution that counts, and which ones merge.
+//! A section contribution that counts, and the rule by which contributions merge.
 
 ghost use Rattle.std.specs.Prelude.{◌≡◌};
 ghost use Rattle.pdb_contributions.specs.MergedContributions.{is_executable as is_executable_at};
@@ -12,8 +12,8 @@ ghost use Rattle.pdb_contributions.specs.MergedContributions.{holds as does_hold
 use pdb_addresses::{ImageSectionHeader, PdbInternalSectionOffset};
 use pdb_symbols_modules::DBISectionContribution;
 
-/// A section contribution of a module: what it holds of a section, from a start to before an end.
-/// They are ordered by section, start, end and module.
+/// A section contribution of a module: a stretch of a section, from a start to before an end.
+/// Contributions are ordered by section, start, end and module.
 #[derive(Clone, Copy, Debug, PartialEq, Eq, PartialOrd, Ord)]
 pub struct ModuleSectionContribution {
     /// The section's number, counted from 1.
@@ -76,7 +76,7 @@ pub(crate) fn is_kept(sections: &[ImageSectionHeader], entry: DBISectionContribu
     entry.size > 0 && is_executable(sections, entry.offset.section)
 }
 
-/// What an entry holds; an end past 32 bits is cut.
+/// The contribution of an entry; an end past 32 bits is cut.
 pub(crate) fn span_of(entry: DBISectionContribution) -> ModuleSectionContribution
     ensures { result ≡ span_of_entry entry }
 {

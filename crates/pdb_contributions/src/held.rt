@@ -1,4 +1,4 @@
-//! What modules hold of sections, and binary searches for the contribution that holds a place and
+//! The contributions of modules, and binary searches for the contribution that holds a place and
 //! for the next start or end of one.
 
 ghost use Rattle.std.specs.Prelude.{◌≡◌, ◌↔◌, IfOk, Ok, None, true, slice_get};
@@ -25,12 +25,12 @@ use pdb_pieces::{Begins, Mark, Pieces, Span, count_begun, place_number};
 use std::alloc::{AllocError, Global};
 use std::marker::Model;
 
-/// What is searched in place of contributions that don't lie apart.
+/// The tables for searches among contributions that don't lie apart.
 #[derive(Drop)]
 struct SearchTables {
     /// Pieces of places with the number of the contribution that holds each.
     pieces: Pieces,
-    /// Where contributions begin and end.
+    /// The starts and ends of contributions.
     bounds: SortedBounds,
 }
 
@@ -100,7 +100,7 @@ fn are_apart(contributions: &[ModuleSectionContribution]) -> bool
     true
 }
 
-/// What a contribution of this number holds.
+/// The span that a contribution of this number holds.
 fn contribution_span(number: usize, contribution: ModuleSectionContribution) -> Span
     ensures span { result ≡ span_of_contribution number contribution }
     ensures short { IsShort contribution }
@@ -115,7 +115,7 @@ fn contribution_span(number: usize, contribution: ModuleSectionContribution) -> 
     }
 }
 
-/// What contributions hold.
+/// The spans that contributions hold.
 fn contribution_spans(
     alloc: Global,
     contributions: &[ModuleSectionContribution],
@@ -169,8 +169,8 @@ fn numbered(
     contributions.get(number).copied()
 }
 
-/// The contribution that holds a place, of contributions that lie apart in ascending order: only
-/// the last one that begins there or before can.
+/// The contribution that holds a place, of contributions that lie apart in ascending order: no
+/// contribution but the last one that begins there or before can hold it.
 fn holder_by_halving(
     contributions: &[ModuleSectionContribution],
     place: PdbInternalSectionOffset,
@@ -233,8 +233,8 @@ fn to_bounds_of_one(
 }
 
 /// The lesser of `far` and the distance from a place to the next start or end, of contributions
-/// that lie apart in ascending order: only the last one that begins at the place or before it, and
-/// the one after that, can have it.
+/// that lie apart in ascending order: no contribution can have it but the last one that begins at
+/// the place or before it, and the one after that.
 fn next_bound_by_halving(
     contributions: &[ModuleSectionContribution],
     place: PdbInternalSectionOffset,
@@ -255,8 +255,8 @@ fn next_bound_by_halving(
 }
 
 impl HeldPlaces {
-    /// What contributions hold, prepared for searches. Those that lie apart in ascending order are
-    /// searched themselves, which takes no more memory.
+    /// Contributions, prepared for searches. Those that lie apart in ascending order are searched
+    /// themselves, which takes no more memory.
     ///
     /// # Errors
     /// `AllocError` when memory runs out.
@@ -280,8 +280,8 @@ impl HeldPlaces {
         self.contributions.as_slice()
     }
 
-    /// The contribution that holds a place, of several the first. It takes as many steps as the
-    /// number of contributions, or of pieces where there are any, has binary digits.
+    /// The contribution that holds a place; of several contributions the first. It takes as many
+    /// steps as the number of contributions, or of pieces where there are any, has binary digits.
     pub fn holder(&self, place: PdbInternalSectionOffset) -> Option<ModuleSectionContribution>
         ensures { result ≡ holder_of self.now place }
     {

@@ -1,4 +1,4 @@
-//! What modules hold of sections: contributions that count, merged, in order, and apart.
+//! The contributions of modules: section contributions that count, merged, in order, and apart.
 
 ghost use Rattle.std.specs.Prelude.{◌≢◌, IfErr, MatchResult};
 ghost use Rattle.pdb_resolving.specs.Fault.{Answers};
@@ -16,12 +16,12 @@ use pdb_symbols_modules::{DBISectionContributionIter, DebugInformation};
 use std::alloc::{AllocError, Global};
 use std::marker::Model;
 
-/// What modules hold of sections, and where the entries that count begin, but for the first.
+/// The contributions of modules, and the starts of the entries that count, but for the first.
 #[derive(Debug, Drop)]
 pub struct SectionContributions {
-    /// What modules hold, by section and start; no two overlap.
+    /// The contributions of modules, by section and start; no two overlap.
     pub contributions: Vec<ModuleSectionContribution>,
-    /// Where the entries that count begin, but for the first, in the order of their list.
+    /// The starts of the entries that count, but for the first, in the order of their list.
     pub later_starts: Vec<PdbInternalSectionOffset>,
 }
 
@@ -37,8 +37,8 @@ impl Model for SectionContributions {
 }
 
 /// The contribution that is merged further before an entry's: the same one, which now ends where
-/// the entry's does, if they are of one module and section; else the entry's, and the one before it
-/// is done.
+/// the entry's does, if they are of one module and section; otherwise the entry's, and the one
+/// before it is done.
 fn merge_next(
     merged: &mut Vec<ModuleSectionContribution>,
     last: ModuleSectionContribution,
@@ -60,7 +60,7 @@ fn merge_next(
     Ok(up_to(last, next))
 }
 
-/// What entries hold, merged, in the order of their list.
+/// The contributions of entries, merged, in the order of their list.
 #[tactic(auto, using(crate::proofs::MergeSteps::merging_start, crate::proofs::MergeSteps::merging_skipped, crate::proofs::MergeSteps::merging_first, crate::proofs::MergeSteps::merging_more, crate::proofs::MergeSteps::merging_not, crate::proofs::MergeSteps::merging_end, crate::proofs::MergeSteps::merging_fault))]
 fn merge_entries(
     alloc: Global,
@@ -115,7 +115,7 @@ fn check_apart(contributions: &[ModuleSectionContribution]) -> Result<()>
 }
 
 /// The section contributions of the DBI stream that count: entries that have a size and lie in a
-/// section in which code may run (`IMAGE_SCN_MEM_EXECUTE`). Consecutive ones of one module and
+/// section in which code may run (`IMAGE_SCN_MEM_EXECUTE`). Consecutive entries of one module and
 /// section are one contribution, from the first one's start to the last one's end; an end past 32
 /// bits is cut to 2^32 - 1.
 ///

@@ -12,15 +12,15 @@ ghost use Rattle.pdb_symbols_modules.specs.declared.contributions.DBISectionCont
   DBISectionContribution as Entry,
 };
 
-/// In the public list of entries the places ascend strictly, so that each is there at most once. At
-/// the place of a given entry one stands, and it has a name if the given one has.
+/// Places ascend strictly in the public list of entries, so that each is there at most once. An
+/// entry stands at the place of each given one, and it has a name if the given one has.
 pub fn one_a_place()
     ensures rising { (given : List PublicFunction) → Rises (publics_among given) }
     ensures named { (given : List PublicFunction) → StandNamed given (publics_among given) }
 {}
 
-/// Where entries stand as they are, in the order of the file, the holder of a place is what the
-/// first of them holds that counts and holds the place.
+/// The holder of a place is, where entries stand as they are, in the order of the file, the
+/// contribution of the first of them that counts and holds the place.
 pub fn first_entry_holds()
     ensures { (sections : List Section) (entries : Listing Entry)
         → IfOk (unmerged_by sections entries) (HoldByFirst sections entries) }

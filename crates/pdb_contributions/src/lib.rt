@@ -1,6 +1,6 @@
-//! What covers a place: what modules hold of sections, by the section contributions of the DBI
-//! stream, and the public list, names and placeholders by the places at which functions may begin.
-//! The crate also says how far it is to the next start or end of a contribution.
+//! The contributions that hold a place, from the section contributions of the DBI stream, and the
+//! public list, names and placeholders by the places at which functions may begin. The crate also
+//! gives the distance to the next start or end of a contribution.
 //!
 //! How lists are held and searched may change. Which contribution holds a place, and what the
 //! public list is (`specs/MergedContributions`, `specs/Publics`), may not.

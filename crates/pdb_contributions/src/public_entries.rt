@@ -1,4 +1,4 @@
-//! What is put into the public list.
+//! The entries that are put into the public list.
 
 ghost use Rattle.std.specs.Prelude.{◌≡◌, ◌++◌, OnOk, option_map};
 ghost use Rattle.pdb_container.specs.Fault.{Gives, Parses};
@@ -16,10 +16,11 @@ use pdb_symbol_records::{PublicSymbol, Symbol, SymbolData, SymbolIter};
 use std::alloc::{AllocError, Global};
 use std::marker::Model;
 
-/// An entry of the public list: where a function may begin, and its name; a placeholder has none.
+/// An entry of the public list: the place at which a function may begin, and its name; a
+/// placeholder has no name.
 #[derive(Debug, Drop)]
 pub struct PublicFunction<'s> {
-    /// Where it begins: a section's number, counted from 1, and an offset in bytes.
+    /// The place: a section's number, counted from 1, and an offset in bytes.
     pub start_offset: PdbInternalSectionOffset,
     /// The name of its public symbol (`S_PUB32`) as it is stored.
     pub name: Option<RawString<'s>>,
@@ -38,7 +39,8 @@ impl<'s> Model for PublicFunction<'s> {
     } };
 }
 
-/// What a symbol says, if it is a public one that can be read. No symbol of another kind is parsed.
+/// The value of a public symbol, if a symbol is one that can be read. No symbol of another kind is
+/// parsed.
 #[tactic(auto, using(crate::proofs::PublicSteps::no_public))]
 fn parse_public<'s>(symbol: &Symbol<'s>) -> Option<PublicSymbol<'s>>
     ensures { option_map public_form result ≡ as_public (symbol_form_of symbol.now) }

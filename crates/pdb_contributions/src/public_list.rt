@@ -1,4 +1,4 @@
-//! The public list in order, and looking up in it.
+//! The public list in order, and searches in it.
 
 ghost use Rattle.std.specs.Prelude.{◌≡◌, IfOk, OnOk, is_some, length, option_map, slice_get};
 ghost use Rattle.std.specs.Prelude.{true, false, ℕ, ◌<◌, ◌≤◌, Some};
@@ -13,8 +13,8 @@ use pdb_addresses::{ImageSectionHeader, PdbInternalSectionOffset};
 use std::alloc::{AllocError, Global};
 use std::marker::Model;
 
-/// The public list: public symbols, and placeholders where contributions begin and where sections
-/// end, by their places, one entry a place.
+/// The public list: public symbols, and placeholders at the starts of contributions and the ends of
+/// sections, by their places, one entry a place.
 #[derive(Debug, Drop)]
 pub struct PublicList<'s> {
     functions: Vec<PublicFunction<'s>>,
@@ -33,7 +33,7 @@ impl<'s> Model for PublicList<'s> {
     ghost invariant = { λ l. Rises l.functions.items };
 }
 
-/// Brings entries into the order of their places, one a place: a named one before a placeholder,
+/// Brings entries into the order of their places, one a place: a named entry before a placeholder,
 /// and then the first.
 fn sort_and_dedup(functions: &mut Vec<PublicFunction<'_>>) -> Result<(), AllocError>
     ensures { OnOk result (functions.new.items ≡ publics_among functions.old.items) }
@@ -63,8 +63,8 @@ fn is_at(place: PdbInternalSectionOffset, function: &PublicFunction<'_>) -> bool
     function.start_offset.section == place.section && function.start_offset.offset == place.offset
 }
 
-/// How many entries of a list in order begin at a place or before it, in its section or in one
-/// before. It is a binary search.
+/// The number of entries of a list in order that begin at a place or before it, in its section or
+/// in one before. It is a binary search.
 fn count_up_to(functions: &[PublicFunction<'_>], place: PdbInternalSectionOffset) -> usize
     requires { Rises functions.now }
     ensures { IsSplit functions.now place result }
@@ -113,7 +113,8 @@ fn last_at_or_before<'f, 's>(
     Some(last)
 }
 
-/// The entry of a list in order at exactly a place, by how many begin at the place or before it.
+/// The entry of a list in order at exactly a place, from the number that begin at the place or
+/// before it.
 #[tactic(auto, using(crate::proofs::Lookup::exactly_found, crate::proofs::Lookup::exactly_other, crate::proofs::Lookup::exactly_nothing))]
 fn last_at<'f, 's>(
     functions: &'f [PublicFunction<'s>],
@@ -160,7 +161,7 @@ fn first_behind<'f, 's>(
 }
 
 /// Whether the first `count` entries of a list in order begin at a place or before it: the last of
-/// them decides.
+/// these entries decides.
 #[tactic(auto, using(crate::proofs::Lookup::front_up_to, crate::proofs::Lookup::front_none))]
 fn all_begun(
     functions: &[PublicFunction<'_>],
@@ -179,7 +180,7 @@ fn all_begun(
 }
 
 /// Whether the entries of a list in order from the number `count` on begin after a place: the first
-/// of them decides.
+/// of these entries decides.
 #[tactic(auto, using(crate::proofs::Lookup::back_from, crate::proofs::Lookup::back_none))]
 fn others_follow(
     functions: &[PublicFunction<'_>],
@@ -213,9 +214,9 @@ fn is_split_at(
     others_follow(functions, number, place)
 }
 
-/// How many entries of a list in order begin at a place or before it. The number `guess` is tried
-/// first, then the one after it: places that are asked for in order take one step or two each,
-/// others a binary search.
+/// The number of entries of a list in order that begin at a place or before it. The number `guess`
+/// is tried first, then the one after it: places that are asked for in order take one step or two
+/// each, others a binary search.
 fn count_from(
     functions: &[PublicFunction<'_>],
     guess: usize,
@@ -234,9 +235,9 @@ fn count_from(
     count_up_to(functions, place)
 }
 
-/// Whether an entry of a list in order begins at a place. `count` is how many entries begin at the
-/// place asked for last or before it, and then at this one: places that are asked for in order
-/// take one step or two each.
+/// Whether an entry of a list in order begins at a place. `count` is the number of entries that
+/// begin at the place asked for last or before it, and then at this one: places that are asked for
+/// in order take one step or two each.
 fn begins_next(
     functions: &[PublicFunction<'_>],
     count: &mut usize,
@@ -283,12 +284,12 @@ fn push_missing(
 }
 
 impl<'s> PublicList<'s> {
-    /// The public list of public symbols, of the places where contributions begin, and of the
-    /// sections' ends. Of the entries at one place a named one counts before a placeholder, and
-    /// then the first.
+    /// The public list of public symbols, of the starts of contributions, and of the sections'
+    /// ends. Of the entries at one place a named one counts before a placeholder, and then the
+    /// first.
     ///
     /// A public symbol is at most of the places, so only the others get a placeholder before all
-    /// are sorted.
+    /// entries are sorted.
     ///
     /// # Errors
     /// `AllocError` when memory runs out.
@@ -308,7 +309,7 @@ impl<'s> PublicList<'s> {
         Ok(PublicList { functions })
     }
 
-    /// How many entries it has.
+    /// The number of its entries.
     pub fn len(&self) -> usize
         ensures { result ≡ length self.now }
     {
@@ -330,7 +331,7 @@ impl<'s> PublicList<'s> {
     }
 
     /// The entry of a place: the last one at the place or before it, in its section; `None` where
-    /// that one lies before `start`, at which the contribution begins that holds the place.
+    /// that one lies before `start`, the start of the contribution that holds the place.
     pub fn over(&self, start: u32, place: PdbInternalSectionOffset) -> Option<&PublicFunction<'s>>
         ensures { option_map (λ f. f.now) result ≡ public_over self.now start place }
     {

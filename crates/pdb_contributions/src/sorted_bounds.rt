@@ -1,5 +1,5 @@
-//! Offsets at which answers may change, of all sections in one row, and how far it is to the next
-//! of them.
+//! Offsets at which answers may change, of all sections in one row, and the distance to the next of
+//! them.
 
 ghost use Rattle.std.specs.Prelude.{◌≡◌, ◌++◌, OnOk, IfOk};
 ghost use Rattle.std.specs.List.{flat_map};
@@ -15,8 +15,8 @@ use pdb_pieces::to_next;
 use std::alloc::{AllocError, Global};
 use std::marker::Model;
 
-/// How many numbers each section has: so many that no distance from a 32-bit offset to a bound of
-/// another section fits in 32 bits.
+/// The count of numbers for each section: so many that no distance from a 32-bit offset to a bound
+/// of another section fits in 32 bits.
 const SECTION_NUMBERS: u64 = 1 << 34;
 
 /// The number of an offset in a section.
@@ -95,7 +95,7 @@ fn contribution_numbers_of(
     Ok(numbers)
 }
 
-/// Where contributions begin and end.
+/// The starts and ends of contributions.
 pub(crate) fn contribution_bounds(
     alloc: Global,
     contributions: &[ModuleSectionContribution],

@@ -1,4 +1,4 @@
-//! What modules hold of sections where entries may stand in any order: each as it stands.
+//! The contributions of modules where entries may stand in any order: each as it stands.
 
 ghost use Rattle.std.specs.Prelude.{◌≡◌, ◌++◌, OnOk};
 ghost use Rattle.pdb_resolving.specs.Fault.{Answers};
@@ -15,7 +15,7 @@ use pdb_symbols_modules::{DBISectionContributionIter, DebugInformation};
 use std::alloc::{AllocError, Global};
 use std::marker::Model;
 
-/// Appends where an entry begins, unless it is the first.
+/// Appends the start of an entry, unless it is the first.
 fn push_later(
     later_starts: &mut Vec<PdbInternalSectionOffset>,
     front: &[ModuleSectionContribution],
@@ -30,7 +30,7 @@ fn push_later(
     Ok(())
 }
 
-/// What entries hold, each as it stands, in the order of their list.
+/// The contributions of entries, each as it stands, in the order of their list.
 #[tactic(auto, using(crate::proofs::UnmergedSteps::listing_start, crate::proofs::UnmergedSteps::listing_skipped, crate::proofs::UnmergedSteps::listing_kept, crate::proofs::UnmergedSteps::listing_end, crate::proofs::UnmergedSteps::listing_fault))]
 fn list_entries(
     alloc: Global,
@@ -74,8 +74,8 @@ fn is_refused_for_order(merged: &Result<SectionContributions>) -> bool
 }
 
 /// The section contributions of the DBI stream that count, as [`compute_section_contributions`]
-/// merges them. Where that refuses the order of their entries, each stands as it is, in the order
-/// of the file, and the first one that holds a place is its holder; GNU ld before 2.44 writes such
+/// merges them. Where it refuses the order of their entries, each stands as it is, in the order of
+/// the file, and the first one that holds a place is its holder; GNU ld before 2.44 writes such
 /// lists.
 ///
 /// # Errors

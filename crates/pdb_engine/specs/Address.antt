@@ -22,7 +22,7 @@ abbrev pub is_short_number : List ℕ → Bool
 is_short_number digits =
     nat_le 1 (length digits) && nat_le (length digits) 8 && list_all (λ b. is_digit b 16) digits
 
--- the value of one to eight hexadecimal digits; none of anything else
+-- the value of one to eight hexadecimal digits; other bytes have none
 abbrev pub value_of : List ℕ → Option ℕ
 value_of digits = if is_short_number digits then Some (digits_value 16 digits) else None
 

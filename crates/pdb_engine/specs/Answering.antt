@@ -1,4 +1,4 @@
--- What a call that answers the lines of an input takes, writes and stores.
+-- The bytes that a call that answers the lines of an input takes, writes and stores.
 use Rattle.std.specs.Prelude.{◌≡◌, ℕ, ◌<◌, ◌≤◌, List, length, take, Option, IfSome, Result, IfErr}
 use Rattle.std.specs.List.{flat_map}
 use Rattle.std.specs.Io.KnownBytes.{IsAtEnd}
@@ -50,7 +50,7 @@ ReportsFront remaining contents reader writer writer' text =
 abbrev pub ended_answers : {L : Type 0} → StartOf L → (List ℕ → List ℕ) → L → List ℕ → List ℕ
 ended_answers s text start bytes = flat_map text (kept_lines s.limit (s.kept start) bytes)
 
--- what the bytes begin after their last newline is stored
+-- the start of a line after the last newline of the bytes is stored
 abbrev pub StoresRest : {L : Type 0} → StartOf L → L → L → List ℕ → Type 0
 StoresRest s start start' bytes = s.kept start' ≡ kept_rest s.limit (s.kept start) bytes
 

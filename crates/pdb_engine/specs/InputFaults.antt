@@ -8,12 +8,12 @@ use Rattle.pdb_engine.specs.declared.fault.InputFault.TheVariants.{OutOfMemory}
 use Rattle.pdb_engine.specs.declared.watched.Watched.{Watched}
 use Rattle.pdb_engine.specs.Watched.{CountsFailure, IsQuiet}
 
--- how answering ends at a failed read
+-- the fault with which answering ends at a failed read
 abbrev pub read_fault_of : ErrorKind → InputFault
 read_fault_of kinds.OutOfMemory = OutOfMemory
 read_fault_of kind = Read kind
 
--- how answering ends at a failed write
+-- the fault with which answering ends at a failed write
 abbrev pub write_fault_of : ErrorKind → InputFault
 write_fault_of kinds.OutOfMemory = OutOfMemory
 write_fault_of kind = Write kind

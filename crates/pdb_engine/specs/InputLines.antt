@@ -23,11 +23,11 @@ ended_input_lines [] = []
 ended_input_lines (b ∷ bs) =
     if b == 10 then [] ∷ ended_input_lines bs else onto_ended b (ended_input_lines bs)
 
--- what is written for an input
+-- the report that is written for an input
 abbrev pub report : (List ℕ → List ℕ) → List ℕ → List ℕ
 report text input = flat_map text (input_lines input)
 
--- what is written for the lines that a newline ends
+-- the report that is written for the lines that a newline ends
 abbrev pub report_of_ended : (List ℕ → List ℕ) → List ℕ → List ℕ
 report_of_ended text input = flat_map text (ended_input_lines input)
 
@@ -43,7 +43,7 @@ kept_lines limit kept (b ∷ bs) =
     if b == 10 then kept ∷ kept_lines limit [] bs
     else kept_lines limit (take limit (kept ++ b ∷ [])) bs
 
--- what is stored after them: the first bytes, at most `limit`, of the line that has not ended
+-- the bytes stored after them: the first, at most `limit`, of the line that has not ended
 abbrev pub kept_rest : ℕ → List ℕ → List ℕ → List ℕ
 kept_rest limit kept [] = kept
 kept_rest limit kept (b ∷ bs) =

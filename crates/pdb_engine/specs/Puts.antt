@@ -1,10 +1,10 @@
--- What a call that writes a text whole, and stops at a failure, returns and leaves.
+-- The result and the effect of a call that writes a text whole, and stops at a failure.
 use Rattle.std.specs.Prelude.{◌≡◌, ℕ, ◌+◌, ◌-◌, ◌^◌, min, List, Option, None, Some, Result, Ok, Err}
 use Rattle.std.specs.declared.io.ErrorKind.{ErrorKind}
 use Rattle.std.specs.Io.KnownBytes.{Appends}
 use Rattle.pdb_engine.specs.InputLines.{Begins}
 
--- what is counted of failed writes: how many, and how the last one failed
+-- the count of failed writes: their number, and how the last one failed
 abbrev pub Count : Type 0
 Count = Option (ℕ × Option ErrorKind)
 
@@ -28,7 +28,7 @@ PutsFront contents failures has_failed old new kind text =
     HasFailed (failures old) (failures new) × has_failed new kind
     × ((out : List ℕ) × Appends (contents old) (contents new) out × Begins out text)
 
--- what a call that writes a text and stops at a failure returns, and leaves
+-- the result and the effect of a call that writes a text and stops at a failure
 abbrev pub Puts : {T : Type 0} → (T → Option (List ℕ)) → (T → Count)
     → (T → ErrorKind → Type 0) → T → T → Result (Unit {0}) ErrorKind → List ℕ → Type 0
 Puts contents failures has_failed old new (Ok done) text = PutsAll contents failures old new text

@@ -1,4 +1,4 @@
--- What a watched reader or writer stores, and what a call may change of it.
+-- The state of a watched reader or writer, and what a call may change of it.
 use Rattle.std.specs.Prelude.{◌≡◌, ℕ, zero, suc, ◌+◌, ◌-◌, ◌^◌, ◌<◌, min, List, ◌++◌, length}
 use Rattle.std.specs.Prelude.{Option, Some, Result, Ok, Err, MatchResult}
 use Rattle.std.specs.declared.io.Error.{Error}
@@ -13,11 +13,11 @@ use Rattle.pdb_engine.specs.InputLines.{Begins}
 abbrev pub inner_of : {T : Type 0} → Watched T → T
 inner_of w = w.inner
 
--- how many calls of the reader or writer failed
+-- the number of calls of the reader or writer that failed
 abbrev pub failures_of : {T : Type 0} → Watched T → ℕ
 failures_of w = w.failures
 
--- how the last failed call failed, if one did
+-- the kind of the last failed call, if one failed
 abbrev pub last_kind_of : {T : Type 0} → Watched T → Option ErrorKind
 last_kind_of w = w.last_kind
 

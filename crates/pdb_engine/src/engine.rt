@@ -68,7 +68,7 @@ pub fn run<A: Answers, R: Read, W: Write>(
     ensures ok { A.known answers.new → OnOk result
         (Reports R.remaining W.contents reader.old writer.old writer.new limit
         (A.text answers.old)) }
-    // What is known at the end was known at the start.
+    // A text that is known at the end was known at the start.
     ensures grows { A.known answers.new → A.known answers.old }
     // Running changes no answer.
     ensures same { A.text answers.new ≡ A.text answers.old }
@@ -360,7 +360,7 @@ fn write_last<W: Write>(alloc: Global, writer: &mut Watched<W>, pending: &mut Ve
     }
 }
 
-/// Writes the pending text, and gives its room back if that is long.
+/// Writes the pending text, and gives its room back if the text is long.
 ///
 /// # Errors
 /// `Write` when a write fails; `OutOfMemory`.
@@ -373,7 +373,7 @@ fn write_pending<W: Write>(
     ensures none_pending { OnOk result (pending.new.items ≡ []) }
     ensures quiet { OnOk result (IsQuiet writer.old writer.new) }
     ensures kind { IfErr result IsOfWriting }
-    // No call of it takes memory.
+    // No call of the writer takes memory.
     ensures ends { IfErr result (λ fault. EndsAtWrite fault writer.old writer.new) }
     ensures part { OnErr result (WritesFront W.contents writer.old writer.new pending.old.items) }
 {
@@ -420,7 +420,7 @@ fn answer_line<A: Answers, W: Write>(
 /// Writes all of the bytes, and stops at the first failure.
 ///
 /// # Errors
-/// The kind of that failure.
+/// The kind of the failure.
 pub fn write_all<W: Write>(writer: &mut Watched<W>, bytes: &[u8]) -> Result<(), ErrorKind>
     ensures ok { OnOk result (Writes W.contents writer.old writer.new bytes.now) }
     ensures quiet { OnOk result (IsQuiet writer.old writer.new) }

@@ -1,4 +1,4 @@
-//! Why the lines of an input weren't all answered.
+//! The fault that leaves lines of an input without an answer.
 
 ghost use Rattle.std.specs.Prelude.{◌≡◌};
 ghost use Rattle.pdb_container.specs.PrintedFault.{printed_text};
@@ -10,13 +10,13 @@ use pdb_container::{PrintedFault, kind_name};
 use std::fmt;
 use std::io::ErrorKind;
 
-/// Why the lines of an input weren't all answered. It prints as its name and, in parentheses, its
-/// kind.
+/// The fault that leaves lines of an input without an answer. It prints as its name and, in
+/// parentheses, its kind.
 #[derive(Debug, Drop, PartialEq)]
 pub enum InputFault {
-    /// A read failed with that kind.
+    /// A read failed with this kind.
     Read(ErrorKind),
-    /// A write failed with that kind.
+    /// A write failed with this kind.
     Write(ErrorKind),
     /// The input has more bytes than may be read.
     InputTooLong,
@@ -25,7 +25,7 @@ pub enum InputFault {
 }
 
 impl InputFault {
-    /// What the fault prints.
+    /// The text that the fault prints.
     pub fn printed(&self) -> PrintedFault<'static>
         ensures { printed_text result ≡ input_fault_text self.now }
     {

@@ -2,8 +2,8 @@
 //! also reads the address that a line or an argument stands for, and counts the failures of readers
 //! and writers.
 //!
-//! How much is read, made and gathered at once may change. What is written when a run ends, and
-//! what an address is, may not: reports promise it.
+//! The amounts that are read, made and gathered at once may change. What is written when a run
+//! ends, and what an address is, may not: reports promise it.
 #![tactic(auto)]
 
 mod address;

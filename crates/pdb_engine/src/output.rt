@@ -1,4 +1,4 @@
-//! Where a fault is reported.
+//! Outputs to which faults are reported.
 
 ghost use Rattle.std.specs.Prelude.{◌≡◌, ℕ, List, Option, OnOk, OnErr};
 ghost use Rattle.std.specs.Io.KnownBytes.{Appends};
@@ -10,19 +10,19 @@ use crate::engine::write_all;
 use crate::watched::Watched;
 use std::io::{ErrorKind, Write};
 
-/// Where a fault is reported: any writer.
+/// An output to which a fault is reported: any writer.
 pub trait ErrorOutput {
-    // what it holds, if that is known
+    // the bytes that it holds, if they are known
     ghost contents: { Self → Option (List ℕ) };
-    // how many of its calls failed and how the last one did, if that is counted
+    // the number of its calls that failed, and how the last one did, if this is counted
     ghost failures: { Self → Option (ℕ × Option Kind) };
-    // its last write failed with that kind; a writer that counts nothing says nothing
+    // its last write failed with this kind; a writer that counts nothing says nothing
     ghost has_failed: { Self → Kind → Type 0 };
 
     /// Writes all of the bytes, and stops at the first failure.
     ///
     /// # Errors
-    /// The kind of that failure.
+    /// The kind of the failure.
     fn put(&mut self, bytes: &[u8]) -> Result<(), ErrorKind>
         ensures { Puts contents failures has_failed self.old self.new result bytes.now };
 }
@@ -60,7 +60,7 @@ impl<W: Write> ErrorOutput for W {
 /// Writes all of the bytes, and stops at the first failure.
 ///
 /// # Errors
-/// The kind of that failure.
+/// The kind of the failure.
 fn write_plain<W: Write>(writer: &mut W, bytes: &[u8]) -> Result<(), ErrorKind>
     ensures ok { OnOk result (Appends (W.contents writer.old) (W.contents writer.new) bytes.now) }
     ensures part { OnErr result

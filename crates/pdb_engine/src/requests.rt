@@ -17,8 +17,8 @@ use std::mem::replace;
 /// has an answer of 60 MB. Where they take more, the next reads ask for less.
 pub const AHEAD_SIZE: usize = 8_388_608;
 
-/// Where the answer to a line stands among texts that were made, as offsets in bytes: from `start`
-/// on, and before `end`. They have 32 bits, since many lines wait.
+/// The place of a line's answer among texts that were made, as offsets in bytes: from `start` on,
+/// and before `end`. They have 32 bits, since many lines wait.
 #[derive(Clone, Copy)]
 struct Made {
     start: u32,
@@ -30,7 +30,7 @@ struct Made {
 pub struct Request<L: LineStart> {
     /// The start of the line, which decides its answer.
     pub line: L,
-    /// Where its answer stands, if that was made before its turn to be written.
+    /// The place of its answer, if that was made before its turn to be written.
     made: Option<Made>,
 }
 
@@ -45,7 +45,8 @@ pub fn clear_room(alloc: Global, bytes: &mut Vec<u8>, long: usize)
     }
 }
 
-/// When a line is answered: lines with lesser places first, and those of one place in their order.
+/// The turn of a line: lines with lesser places are answered first, and those of one place in their
+/// order.
 #[derive(Clone, Copy, PartialEq, Eq, PartialOrd, Ord)]
 struct Turn {
     place: u32,
@@ -74,7 +75,7 @@ fn split_byte<L: LineStart>(
     Ok(())
 }
 
-/// How many newlines there are.
+/// The number of newlines.
 fn count_newlines(bytes: &[u8]) -> usize {
     let mut count = 0usize;
     for byte in bytes {

@@ -30,7 +30,8 @@ impl<T> Watched<T> {
         }
     }
 
-    /// Returns how many calls have failed since [`Watched::new`]. At `u64::MAX` the count stays.
+    /// Returns the number of calls that have failed since [`Watched::new`]. At `u64::MAX` the count
+    /// stays.
     pub fn failures(&self) -> u64
         ensures { result ≡ failures_of self.now }
     {
@@ -60,7 +61,7 @@ impl<R: Read> Watched<R> {
     /// Reads at most `buf.len()` bytes into the start of `buf`, and returns their number.
     ///
     /// # Errors
-    /// As the wrapped reader's. Each error counts as one failure, and nothing else does.
+    /// The wrapped reader's errors. Each error counts as one failure, and nothing else does.
     pub fn read(&mut self, buf: &mut [u8]) -> io::Result<usize>
         ensures bound { ReadsAtMost result buf.new }
         ensures bytes { ReadConsumes (R.remaining (inner_of self.old))
@@ -83,8 +84,8 @@ impl<W: Write> Watched<W> {
     /// Writes a prefix of `buf`, and returns its length in bytes.
     ///
     /// # Errors
-    /// As the wrapped writer's. Each error counts as one failure. A write that takes none of some
-    /// bytes counts as one too, as `WriteZero`, and nothing else does.
+    /// The wrapped writer's errors. Each error counts as one failure. A write that takes none of
+    /// some bytes counts as one too, as `WriteZero`, and nothing else does.
     pub fn write(&mut self, buf: &[u8]) -> io::Result<usize>
         ensures bound { WritesAtMost result buf.now }
         ensures bytes { WriteAppends (W.contents (inner_of self.old))

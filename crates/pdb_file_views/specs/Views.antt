@@ -1,4 +1,4 @@
--- What was read of a file, and which lists of bytes agree with it.
+-- The views that were read of a file, and the lists of bytes that agree with them.
 use Rattle.std.specs.Prelude.{◌≡◌, ℕ, Bool, true, false, ◌&&◌, if◌then◌else◌, nat_eq}
 use Rattle.std.specs.Prelude.{bytes_eq, ◌==◌, List, [], ◌∷◌, length, map, slice_index, Option, None}
 use Rattle.std.specs.Prelude.{Some, Result, Ok, Err}
@@ -8,8 +8,8 @@ use Rattle.pdb_container.specs.Places.{places_of, bytes_at}
 use Rattle.pdb_file_views.specs.Blocks.{AreMarked}
 use Rattle.pdb_file_views.specs.declared.file_views.FileView.{FileView}
 
--- what was read of a file of that size: views with their bytes, and maybe all of it; and some list
--- of bytes that agrees with the views
+-- the bytes that were read of a file of this size: views with their bytes, and maybe all of the
+-- file; and some list of bytes that agrees with the views
 pub record Views : Type 0 where
   pub size : ℕ
   pub views : List FileView
@@ -21,7 +21,7 @@ abbrev pub gave : Result (List ℕ) Fault → List ℕ → Bool
 gave (Ok read) bytes = bytes_eq read bytes
 gave (Err fault) bytes = false
 
--- whether a list of bytes has those of a view at the view's places
+-- whether a list of bytes has a view's bytes at the view's places
 abbrev pub has_view : List ℕ → FileView → Bool
 has_view contents view = gave (bytes_at contents (places_of view.slices.items)) view.bytes
 
@@ -36,11 +36,11 @@ agrees read contents =
     (nat_eq (length contents) read.size && list_all (has_view contents) read.views)
     && is_whole read.whole contents
 
--- these bytes where they agree with what was read, and else some that agree with the views
+-- these bytes where they agree with what was read, and otherwise some that agree with the views
 abbrev pub agreeing : Views → List ℕ → List ℕ
 agreeing read contents = if agrees read contents then contents else read.witness
 
--- all of a file where all of it was read, and else other bytes
+-- all of a file where all of it was read, and otherwise other bytes
 abbrev pub whole_or : Option (List ℕ) → List ℕ → List ℕ
 whole_or None contents = contents
 whole_or (Some bytes) contents = bytes
@@ -56,7 +56,7 @@ byte_with (place ∷ places) [] before at = before
 byte_with (place ∷ places) (byte ∷ bytes) before at =
     if at == place then byte else byte_with places bytes before at
 
--- bytes of which those at some places are replaced
+-- bytes with the bytes at some places replaced
 abbrev pub with_bytes : List ℕ → List ℕ → List ℕ → List ℕ
 with_bytes file places bytes =
     map (λ at. byte_with places bytes (slice_index file at) at) (range_with_len 0 (length file))
@@ -77,6 +77,6 @@ abbrev pub HasViews : List ℕ → List FileView → Type 0
 HasViews contents views =
     All (λ view. bytes_at contents (places_of view.slices.items) ≡ Ok view.bytes) views
 
--- What agrees with everything that was read agreed before.
+-- Bytes that agree with everything that was read agreed before.
 abbrev pub Grows : Views → Views → Type 0
 Grows old new = (contents : List ℕ) → agrees new contents ≡ true → agrees old contents ≡ true

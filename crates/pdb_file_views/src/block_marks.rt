@@ -1,5 +1,5 @@
-//! Which blocks of a file were read. A block is read once, so that what was read at different times
-//! agrees.
+//! Marks of the blocks of a file that were read. A block is read once, so that bytes that were read
+//! at different times agree.
 
 ghost use Rattle.std.specs.Prelude.{◌≡◌, ℕ, ◌≤◌, ◌<◌, ◌/◌, true, false, get_or, set};
 ghost use Rattle.pdb_container.specs.Places.{places_of, slice_places};
@@ -8,7 +8,7 @@ ghost use Rattle.pdb_file_views.specs.Blocks.{WereFree};
 
 use pdb_container::SourceSlice;
 
-/// How many bytes a block has: the smallest size of pages.
+/// The number of bytes of a block: the smallest size of pages.
 pub(crate) const BLOCK: u64 = 512;
 
 /// Marks a block, unless it is marked or past the end; returns whether it did.

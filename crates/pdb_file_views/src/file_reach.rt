@@ -1,20 +1,20 @@
-//! How far a file may be read.
+//! The offset up to which a file may be read.
 
 use pdb_container::{may_be_container, pages_end};
 use std::io::{self, ErrorKind};
 use std::os::unix::fs::FileExt;
 
-/// How many bytes of a file say where its pages end.
+/// The number of bytes of a file that say where its pages end.
 const FRONT: usize = 44;
 
-/// How many bytes the header and its list of pages lie in.
+/// The number of bytes in which the header and its list of pages lie.
 const HEADER_VIEW: u64 = 4096;
 
-/// How far a file of `size` bytes may be read: to the end of its pages; a file that is no container
-/// no further than a header. What comes after is part of no stream.
+/// The offset up to which a file of `size` bytes may be read: to the end of its pages; a file that
+/// is no container no further than a header. The bytes after it are part of no stream.
 ///
 /// # Errors
-/// Those of the file.
+/// The errors of the file.
 pub fn reach<F: FileExt>(file: &F, size: u64) -> io::Result<u64> {
     let mut front = [0u8; FRONT];
     match file.read_exact_at(&mut front, 0) {

@@ -12,7 +12,7 @@ use std::alloc::{AllocError, Global};
 use std::io;
 use std::marker::Model;
 
-/// Where a file's bytes are.
+/// The bytes of a file, in memory or not.
 #[derive(Drop)]
 enum FileBytes {
     /// All of them are in memory.
@@ -21,12 +21,13 @@ enum FileBytes {
     Views(ViewSource),
 }
 
-/// How many more bytes may be copied and listed of a file.
+/// The numbers of bytes that may still be copied and listed of a file.
 #[derive(Clone, Copy, Debug)]
 pub enum FileLimits {
-    /// Of a file that is in memory.
+    /// The limits of a file that is in memory.
     Whole(CopyLimits),
-    /// Of a file that is read on demand, of which nothing is copied: how many may be listed.
+    /// The limit of a file that is read on demand, of which nothing is copied: the number of bytes
+    /// that may still be listed.
     Views(u64),
 }
 
@@ -56,7 +57,7 @@ impl FileSource {
         }
     }
 
-    /// What was read of a file so far: all of it, or views, to which those that aren't there are
+    /// A source over what was read of a file so far: all of it, or views, where missing ones are
     /// noted as wanted. `contents` names the bytes that the file is taken to have, where they agree
     /// with what was read.
     ///
@@ -81,7 +82,7 @@ impl FileSource {
         }
     }
 
-    /// How many more bytes may be copied and listed.
+    /// The numbers of bytes that may still be copied and listed.
     pub fn limits(&self) -> FileLimits {
         match &self.bytes {
             FileBytes::Whole(bytes) => FileLimits::Whole(bytes.limits()),

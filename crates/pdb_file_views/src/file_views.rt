@@ -1,4 +1,4 @@
-//! What was read of a file.
+//! The views that were read of a file.
 
 ghost use Rattle.std.specs.Prelude.{◌≡◌, ℕ, [], true, List, None, length, IfOk, OnOk, replicate};
 ghost use Rattle.pdb_container.specs.Places.{places_of};
@@ -14,8 +14,8 @@ use std::io::{self, ErrorKind};
 use std::marker::Model;
 use std::os::unix::fs::FileExt;
 
-/// Where the first of the slices begins; `u64::MAX` where there is none, or where that has no byte.
-/// Bytes of two views begin at different places.
+/// The offset at which the first of the slices begins; `u64::MAX` where there is none, or where the
+/// first has no byte. Bytes of two views begin at different places.
 pub(crate) fn first_of(slices: &[SourceSlice]) -> u64 {
     match slices.first() {
         Some(slice) if slice.size > 0 => slice.offset,
@@ -26,7 +26,7 @@ pub(crate) fn first_of(slices: &[SourceSlice]) -> u64 {
 /// A view of a file: the slices that were asked for, and their bytes, joined.
 #[derive(Drop)]
 pub struct FileView {
-    /// Where the first slice begins ([`first_of`]).
+    /// The offset at which the first slice begins ([`first_of`]).
     pub(crate) first: u64,
     pub(crate) slices: Vec<SourceSlice>,
     pub(crate) bytes: SharedBytes,
@@ -86,11 +86,12 @@ impl<'a> Names<PutView<'a>> for WithView {
         (places_of put.view.now.slices.items) put.view.now.bytes };
 }
 
-/// What was read of a file: views, each with its bytes, and all of the file where that was read.
-/// No block of 512 bytes is in two views. In contracts it tells which lists of bytes agree with it.
+/// The bytes that were read of a file: views, each with its bytes, and all of the file where all
+/// was read. No block of 512 bytes is in two views. In contracts this tells which lists of bytes
+/// agree with them.
 #[derive(Drop)]
 pub struct FileViews {
-    /// How many bytes the file has.
+    /// The number of the file's bytes.
     pub(crate) size: u64,
     pub(crate) views: Vec<FileView>,
     pub(crate) whole: Option<SharedBytes>,
@@ -138,7 +139,7 @@ impl FileViews {
     /// tried before, or where one is in two of the slices, or lies past the end.
     ///
     /// # Errors
-    /// Those of the file; `UnexpectedEof` where the file became shorter; `OutOfMemory`.
+    /// The errors of the file; `UnexpectedEof` where the file became shorter; `OutOfMemory`.
     #[tactic(auto, using(crate::proofs::WitnessSteps::witness_more, crate::proofs::WitnessSteps::witness_marked, crate::proofs::WitnessSteps::places_within, crate::proofs::WitnessSteps::agreed_before))]
     pub fn read<F: FileExt>(
         &mut self,
@@ -168,7 +169,7 @@ impl FileViews {
     /// Reads all of the file, unless it was.
     ///
     /// # Errors
-    /// As [`FileViews::read`].
+    /// The errors of [`FileViews::read`].
     pub fn read_whole<F: FileExt>(&mut self, alloc: Global, file: &F) -> io::Result<()>
         ensures grows { Grows self.old self.new }
     {
@@ -187,7 +188,7 @@ impl FileViews {
     /// ([`FileViews::read`]). Returns whether any was wanted.
     ///
     /// # Errors
-    /// As [`FileViews::read`].
+    /// The errors of [`FileViews::read`].
     pub fn read_wanted<F: FileExt>(
         &mut self,
         alloc: Global,
@@ -209,7 +210,7 @@ impl FileViews {
     /// Reads views, up to one that can't be had; returns whether all could.
     ///
     /// # Errors
-    /// As [`FileViews::read`].
+    /// The errors of [`FileViews::read`].
     fn read_all<F: FileExt>(
         &mut self,
         alloc: Global,
@@ -230,7 +231,7 @@ impl FileViews {
 /// The bytes of slices, joined, whichever they are; `total` in all.
 ///
 /// # Errors
-/// Those of the file; `UnexpectedEof`; `OutOfMemory`.
+/// The errors of the file; `UnexpectedEof`; `OutOfMemory`.
 fn read_bytes<F: FileExt>(
     alloc: Global,
     file: &F,

@@ -18,8 +18,8 @@ fn is_within(file_size: u64, slice: SourceSlice) -> bool
     slice.size == 0 || slice.offset <= file_size && slice.size as u64 <= file_size - slice.offset
 }
 
-/// How many bytes slices have, at most `usize::MAX`; `None` where one doesn't lie within a file of
-/// `file_size` bytes.
+/// Returns the number of bytes of slices, at most `usize::MAX`; `None` where one doesn't lie within
+/// a file of `file_size` bytes.
 #[tactic(auto, using(crate::proofs::SliceSteps::within_more, crate::proofs::SliceSteps::within_fail, crate::proofs::SliceSteps::within_done, pdb_container::proofs::Slices::places_len_more))]
 pub(crate) fn size_within(file_size: u64, slices: &[SourceSlice]) -> Option<usize>
     ensures within { (file : List ℕ) → length file ≡ file_size → MatchOption result
@@ -37,8 +37,8 @@ pub(crate) fn size_within(file_size: u64, slices: &[SourceSlice]) -> Option<usiz
     Some(size)
 }
 
-/// How many bytes slices have that lie within a file of `file_size` bytes; `None` where one
-/// doesn't, or where they have more bytes than the file, and so lie over one another.
+/// Returns the number of bytes of slices that lie within a file of `file_size` bytes; `None` where
+/// one doesn't, or where they have more bytes than the file, and so lie over one another.
 pub(crate) fn size_apart(file_size: u64, slices: &[SourceSlice]) -> Option<usize>
     ensures within { IfSome result (λ _. (file : List ℕ) → length file ≡ file_size
         → IsOk (bytes_at file (places_of slices.now))) }

@@ -15,7 +15,7 @@ use std::io::{self, ErrorKind};
 use std::marker::Model;
 use std::sync::Arc;
 
-/// What was read of a file, and bytes that one asks about.
+/// The views that were read of a file, and bytes that are asked about.
 #[derive(Drop)]
 struct Asked<'a> {
     views: &'a FileViews,
@@ -41,11 +41,11 @@ impl Names<Tag> for Same {
 #[derive(Drop)]
 pub struct ViewSource {
     size: u64,
-    /// In the order of their first bytes.
+    /// The views, in the order of their first bytes.
     views: Arc<Vec<FileView>>,
     contents: Tag,
     wanted: Wanted,
-    /// How many more bytes may be listed.
+    /// The number of bytes that may still be listed.
     listed_left: u64,
 }
 
@@ -139,7 +139,7 @@ impl ViewSource {
         })
     }
 
-    /// How many more bytes may be listed.
+    /// The number of bytes that may still be listed.
     pub fn listed_left(&self) -> u64 {
         self.listed_left
     }

@@ -14,7 +14,7 @@ pub struct Wanted {
 }
 
 impl Wanted {
-    /// A list of none.
+    /// A list of no views.
     ///
     /// # Errors
     /// `AllocError` when memory runs out.
@@ -46,7 +46,7 @@ impl Wanted {
         let _ = views.push(noted);
     }
 
-    /// Takes what was noted, each view once: the list has none then.
+    /// Takes the views that were noted, each once: the list has none then.
     pub fn take(&self, alloc: Global) -> Vec<Vec<SourceSlice>> {
         let mut views = match self.views.try_lock() {
             Some(mut views) => replace(&mut *views, Vec::new(alloc)),

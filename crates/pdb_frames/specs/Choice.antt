@@ -1,5 +1,4 @@
--- What a context goes over, and what it chooses at a place: a procedure, or an entry of the public
--- list.
+-- The parts that a context goes over, and the function that it chooses at a place.
 use Rattle.std.specs.Prelude.{◌≡◌, ℕ, ◌+◌, ◌-◌, Bool, false, List, [], ◌∷◌, ◌==◌, Option, None}
 use Rattle.std.specs.Prelude.{Some, option_map, option_and_then, if◌then◌else◌}
 use Rattle.pdb_addresses.specs.declared.internal_section_offset.PdbInternalSectionOffset.{
@@ -35,31 +34,31 @@ abbrev pub chosen_of : Option Procedure → Option PublicFunction → Option Cho
 chosen_of (Some q) f = Some (Proc q)
 chosen_of None f = option_map Public f
 
--- what is chosen at a place that a contribution holds, by the procedures of its module: the one
--- over the place, or else the public entry of the place, unless that one lies before the
--- contribution
+-- the function that is chosen at a place that a contribution holds, from the procedures of its
+-- module: the procedure over the place, or else the public entry of the place, unless the entry
+-- lies before the contribution
 abbrev pub chosen : Parts → List Procedure → ModuleSectionContribution
     → PdbInternalSectionOffset → Option Chosen
 chosen p procedures c place =
     chosen_of (over procedures place) (public_over p.publics c.start_offset place)
 
--- the same by the module's data, which has no procedures where it isn't there
+-- the same from the module's data, which has no procedures where it isn't there
 abbrev pub chosen_in : Parts → Option ModuleData → ModuleSectionContribution
     → PdbInternalSectionOffset → Option Chosen
 chosen_in p known c place = chosen p (procedures_in known) c place
 
--- a number is that of the procedure over a place, if there is one
+-- a number is the index of the procedure over a place, if there is one
 abbrev pub NumbersOver : List Procedure → Option ℕ → PdbInternalSectionOffset → Type 0
 NumbersOver procedures number place =
     procedure_if_numbered procedures number ≡ over procedures place
 
--- where a chosen function begins
+-- the place at which a chosen function begins
 
 abbrev pub start_of : Chosen → PdbInternalSectionOffset
 start_of (Proc q) = q.offset
 start_of (Public f) = f.start_offset
 
--- the image address at which it begins, if it has one
+-- the image address at which a chosen function begins, if it has one
 abbrev pub start_address : Parts → Chosen → Option ℕ
 start_address p c = outer_of_place p.map (start_of c).section (start_of c).offset
 
@@ -81,19 +80,19 @@ decorated_at p place = if_decorated (option_and_then (λ f. f.name) (public_exac
 
 -- ---- ends
 
--- how far it is from a public entry to the next one in its section
+-- the distance from a public entry to the next one in its section
 abbrev pub public_length : Parts → PublicFunction → Option ℕ
 public_length p f =
     option_map (λ next. (next.start_offset).offset - (f.start_offset).offset)
     (next_public p.publics f.start_offset)
 
--- how long a chosen function is, if that is known
+-- the length of a chosen function, if it is known
 abbrev pub length_of : Parts → Chosen → Option ℕ
 length_of p (Proc q) = Some q.len
 length_of p (Public f) = public_length p f
 
--- where a function ends that begins at an image address, by its length; none without a length, and
--- none past 32 bits
+-- the end of a function that begins at an image address, from its length; none without a length,
+-- and none past 32 bits
 abbrev pub end_behind : ℕ → Option ℕ → Option ℕ
 end_behind start length = option_and_then (λ n. in_32_bits (start + n)) length
 

@@ -18,7 +18,7 @@ abbrev pub public_or : Option (List ℕ) → Option (List ℕ) → Option (List 
 public_or (Some name) other = Some (utf8_lossy name)
 public_or None other = other
 
--- a procedure's name: the public one in place of its own, or that by its type
+-- a procedure's name: the public one in place of its own, or the name by its type
 abbrev pub procedure_name : Parts → Env → Procedure → Option (List ℕ)
 procedure_name p env q = public_or (public_name p q) (typed_name env q)
 

@@ -1,4 +1,4 @@
--- How deep the frames at an address are.
+-- The depth of the frames at an address.
 use Rattle.std.specs.Prelude.{◌≡◌, ℕ, ◌+◌, List, length, slice_get, Option, None, Some}
 use Rattle.std.specs.Prelude.{Result, Ok, Err}
 use Rattle.pdb_container.specs.Fault as container
@@ -38,7 +38,7 @@ depth_among inlinees q place (Ok sites) =
     depth_at sites (deepest (call_rows inlinees q.offset) sites place)
 depth_among inlinees q place (Err e) = 0
 
--- the same in a chosen function, by its module's stream; a public entry has no sites
+-- the same in a chosen function, from its module's stream; a public entry has no sites
 abbrev pub depth_by : ModuleStream → Result ExtendedModule container.Fault → Chosen
     → PdbInternalSectionOffset → ℕ
 depth_by stream (Ok extended) (Proc q) place =
@@ -46,13 +46,13 @@ depth_by stream (Ok extended) (Proc q) place =
 depth_by stream (Ok extended) (Public f) place = 0
 depth_by stream (Err e) c place = 0
 
--- the same by the module's data, if it has some
+-- the same from the module's data, if it has some
 abbrev pub depth_in : Option ModuleData → Chosen → PdbInternalSectionOffset → ℕ
 depth_in None c place = 0
 depth_in (Some known) c place = depth_by known.stream (extended_of known.stream) c place
 
--- The frames at an address: a contribution holds it and a function is chosen there, and there is
--- one frame more than the deepest site over the place is deep.
+-- The frames at an address: a contribution holds it and a function is chosen there, and the number
+-- of frames is one more than the depth of the deepest site over the place.
 pub record AreAsDeep (p : Parts) (scope : ℕ → Scope) (a : ℕ) (frames : List Frame) : Type 0 where
   pub holder : ModuleSectionContribution
   pub place : PdbInternalSectionOffset

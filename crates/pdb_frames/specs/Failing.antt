@@ -1,4 +1,4 @@
--- The part of a module that can't be read, of those that the frames at an address are made of.
+-- The part that can't be read, of a module's parts from which the frames at an address are made.
 use Rattle.std.specs.Prelude.{ℕ, Option, None, Some}
 use Rattle.pdb_addresses.specs.declared.internal_section_offset.PdbInternalSectionOffset.{
   PdbInternalSectionOffset,
@@ -30,6 +30,6 @@ abbrev pub failing_if_held : Parts → (ℕ → Scope)
 failing_if_held p scope None = None
 failing_if_held p scope (Some held) = failing_at p (scope (held.0).module_index) held.0 held.1
 
--- the first part that fails of those that the frames at an address of the image are made of
+-- the first part that fails, of the parts from which the frames at an address of the image are made
 abbrev pub failing : Parts → (ℕ → Scope) → ℕ → Option Part
 failing p scope a = failing_if_held p scope (held_at p (place_of p a))

@@ -29,7 +29,7 @@ unsuccessful_error (parts.ExtendedModule m) = errors.ExtendedModuleInfoUnsuccess
 unsuccessful_error (parts.ProcedureLines m start) = errors.ProcedureLinesUnsuccessful
 unsuccessful_error (parts.ProcedureInlineRanges m start) = errors.ProcedureInlineRangesUnsuccessful
 
--- the fault that is reported of a part that fails: its own, unless it stands as failed
+-- the fault that is reported of a part that fails: the part's own, unless it stands as failed
 abbrev pub fault_told : Failures → Option Part → Fault → Fault
 fault_told f None e = e
 fault_told f (Some part) e = if has_failed f part then unsuccessful part else e
@@ -39,12 +39,13 @@ abbrev pub told : {A : Type 0} → Failures → Option Part → Result A Fault �
 told f part (Ok x) = Ok x
 told f part (Err e) = Err (fault_told f part e)
 
--- what stands as failed after a part failed
+-- the parts that stand as failed after a part failed
 abbrev pub with_failing : Failures → Option Part → Failures
 with_failing f None = f
 with_failing f (Some part) = with_failed f part
 
--- what stands as failed after a question: also the part in which it failed, unless memory ran out
+-- the parts that stand as failed after a question, with the one in which it failed, unless memory
+-- ran out
 abbrev pub failed_after : {A : Type 0} → Option Part → Result A Error → Failures → Failures
 failed_after part (Ok x) f = f
 failed_after part (Err errors.OutOfMemory) f = f
@@ -76,8 +77,8 @@ abbrev pub failing_by :
 failing_by m stream c (Ok extended) = failing_procedure m stream extended c
 failing_by m stream c (Err e) = Some (parts.ExtendedModule m)
 
--- the first part that can't be read of those from which the frames in a chosen function are made;
--- none without data
+-- the first part that can't be read, of the parts from which the frames in a chosen function are
+-- made; none without data
 abbrev pub failing_in : ℕ → Option ModuleData → Chosen → Option Part
 failing_in m None c = None
 failing_in m (Some known) c = failing_by m known.stream c (extended_of known.stream)

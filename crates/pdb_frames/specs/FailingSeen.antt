@@ -1,4 +1,4 @@
--- The part that can't be read, of those that the frames in what the code chose are made of.
+-- The part that can't be read, of the parts from which the frames in a chosen function are made.
 use Rattle.std.specs.Prelude.{◌≡◌, ℕ, Option}
 use Rattle.pdb_frames.specs.ChosenSeen.{chosen_seen}
 use Rattle.pdb_frames.specs.FailingParts.{failing_by, failing_in, failing_procedure, failing_sites}
@@ -9,7 +9,7 @@ use Rattle.pdb_known_modules.specs.declared.modules.ExtendedModuleInfo.{Extended
 use Rattle.pdb_resolving.specs.declared.failures.Part.{Part}
 use Rattle.pdb_symbols_modules.specs.ModuleStream.{ModuleStream}
 
--- the part is that of the procedure's sites, where they can't be read
+-- the part is the procedure's sites, where they can't be read
 abbrev pub IsFailingSites : ℕ → ModuleStream → Chosen → Option Part → Type 0
 IsFailingSites m stream c part = part ≡ failing_sites m stream (chosen_seen c)
 
@@ -25,6 +25,6 @@ abbrev pub IsFailingInStream : ℕ → ModuleStream → Chosen → Option Part �
 IsFailingInStream m stream c part =
     part ≡ failing_by m stream (chosen_seen c) (extended_of stream)
 
--- the same by the module's data; without data there is none
+-- the same from the module's data; without data there is none
 abbrev pub IsFailing : ℕ → Option ModuleData → Chosen → Option Part → Type 0
 IsFailing m known c part = part ≡ failing_in m known (chosen_seen c)

@@ -28,25 +28,25 @@ abbrev pub rows_in : ModuleStream → Program → Chosen → Result (List LineRo
 rows_in stream program (Proc q) = extended_procedure_of stream program q >>= λ read. Ok read.0
 rows_in stream program (Public f) = lifted (function_rows program f.start_offset)
 
--- the key of the file at a place, by the rows of its function, and the lesser of a number and the
+-- the key of the file at a place, from the rows of its function, and the lesser of a number and the
 -- distance to the next row
 abbrev pub run_by_rows : Program → PdbInternalSectionOffset → ℕ → List LineRow → FileKey × ℕ
 run_by_rows program place far rows =
     (row_key program (row_at rows place.offset), up_to_next (row_starts rows) place.offset far)
 
--- such a run by what gives the rows, which may be a fault
+-- such a run from the reading of the rows, which may be a fault
 abbrev pub run_if_read : Program → PdbInternalSectionOffset → ℕ → Result (List LineRow) Fault
     → Result (FileKey × ℕ) Fault
 run_if_read program place far rows = rows >>= λ rows. Ok (run_by_rows program place far rows)
 
--- such a run by the module's stream: line program and inlinees are read before the rows
+-- such a run from the module's stream: line program and inlinees are read before the rows
 unfoldable pub file_run_in :
     ModuleStream → Chosen → PdbInternalSectionOffset → ℕ → Result (FileKey × ℕ) Fault
 file_run_in stream c place far = do
   extended ← lifted (extended_of stream)
   run_if_read extended.program place far (rows_in stream extended.program c)
 
--- such a run by the module's data; without data no file is known
+-- such a run from the module's data; without data no file is known
 abbrev pub file_run_of :
     Option ModuleData → Chosen → PdbInternalSectionOffset → ℕ → Result (FileKey × ℕ) Fault
 file_run_of None c place far = Ok (keys.NoFile, far)
@@ -54,7 +54,7 @@ file_run_of (Some known) c place far = file_run_in known.stream c place far
 
 -- ---- at a place
 
--- a run in a function that begins at an image address; there is nothing where it has none
+-- a run in a function that begins at an image address; nothing where it has no such address
 abbrev pub run_if_addressed : Option ℕ → ℕ → FileKey × ℕ → Option FileKey × ℕ
 run_if_addressed None far run = (None, far)
 run_if_addressed (Some start) far run = (Some run.0, run.1)
@@ -64,7 +64,7 @@ abbrev pub run_reported : Option ℕ → ℕ → Result (FileKey × ℕ) Fault �
 run_reported start far (Err e) = (Some keys.Unreadable, far)
 run_reported start far (Ok run) = run_if_addressed start far run
 
--- the run in what may be chosen: nothing up to the next bound without it
+-- the run in the function that may be chosen: without one nothing, up to the next bound
 abbrev pub file_run_if_chosen :
     Parts → Option ModuleData → PdbInternalSectionOffset → ℕ → Option Chosen → Option FileKey × ℕ
 file_run_if_chosen p known place far None = (None, far)

@@ -36,7 +36,7 @@ abbrev pub file_or_none : Option (List ℕ) → FileAnswer
 file_or_none None = NoFile
 file_or_none (Some name) = File name
 
--- the file of the last of frames, which is the function's
+-- the file of the last frame, which is the function's
 abbrev pub last_file : List Frame → FileAnswer
 last_file [] = NoFile
 last_file (f ∷ []) = file_or_none f.file
@@ -52,7 +52,7 @@ file_of (Ok (Some f)) = last_file f.frames
 abbrev pub file_here : Parts → (ℕ → Scope) → PdbInternalSectionOffset → FileAnswer
 file_here p scope place = file_of (frames_if_held p scope (held_at p (Some place)))
 
--- a file as it is counted: nothing isn't
+-- a file as it is counted: nothing isn't counted
 abbrev pub if_any : FileAnswer → Option FileAnswer
 if_any Nothing = None
 if_any Unreadable = Some Unreadable
@@ -61,27 +61,27 @@ if_any (File name) = Some (File name)
 
 -- ---- where the file may change
 
--- where the rows of a chosen function's subsection begin; nowhere where they can't be read
+-- the starts of the rows of a chosen function's subsection; none where they can't be read
 abbrev pub starts_read : Result (List LineRow) container.Fault → List ℕ
 starts_read (Ok rows) = row_starts rows
 starts_read (Err e) = []
 
--- the same by its module's line program
+-- the same from its module's line program
 abbrev pub starts_in_extended : Chosen → Result ExtendedModule container.Fault → List ℕ
 starts_in_extended c (Ok extended) = starts_read (function_rows extended.program (start_of c))
 starts_in_extended c (Err e) = []
 
--- the same by its module's data
+-- the same from its module's data
 abbrev pub starts_in : Option ModuleData → Chosen → List ℕ
 starts_in None c = []
 starts_in (Some known) c = starts_in_extended c (extended_of known.stream)
 
--- the same by what is chosen, if something is
+-- the same from the function that is chosen, if one is
 abbrev pub starts_if_chosen : Option ModuleData → Option Chosen → List ℕ
 starts_if_chosen known None = []
 starts_if_chosen known (Some c) = starts_in known c
 
--- where the rows of the function chosen at a place begin, by the contribution that holds it
+-- the starts of the rows of the function chosen at a place, from the contribution that holds it
 abbrev pub starts_by : Parts → (ℕ → Scope) → PdbInternalSectionOffset
     → Option ModuleSectionContribution → List ℕ
 starts_by p scope place None = []
@@ -96,7 +96,7 @@ starts_if_frames Unreadable starts = []
 starts_if_frames NoFile starts = starts
 starts_if_frames (File name) starts = starts
 
--- where the file may change besides: rows of the function begin
+-- the offsets at which the file may change within a function: rows of the function begin there
 abbrev pub starts_here : Parts → (ℕ → Scope) → PdbInternalSectionOffset → List ℕ
 starts_here p scope place =
     starts_if_frames (file_here p scope place)
@@ -137,7 +137,7 @@ abbrev pub entry_key : Result checksums.File container.Fault → FileKey
 entry_key (Ok file) = keys.Name file.name
 entry_key (Err e) = keys.NoFile
 
--- the key of a row's file, by its module's line program; no file is known without a row
+-- the key of a row's file, from its module's line program; no file is known without a row
 abbrev pub row_key : Program → Option LineRow → FileKey
 row_key program None = keys.NoFile
 row_key program (Some row) = entry_key (checksums.file_in program.files (row.file_index).0)

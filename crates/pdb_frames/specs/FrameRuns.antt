@@ -33,18 +33,18 @@ use Rattle.pdb_symbols_modules.specs.ModuleStream.{ModuleStream}
 
 -- ---- where the frames in a chosen function may change
 
--- where the rows of a procedure's subsection begin, and where those of its inline sites begin and
--- end
+-- the starts of the rows of a procedure's subsection, and the starts and ends of the rows of its
+-- inline sites
 abbrev pub procedure_cuts :
     (ℕ → Option InlinedFunction) → Procedure → List LineRow × List Site → List ℕ
 procedure_cuts inlinees q read =
     row_starts read.0 ++ cuts_of (rows_of_sites (call_rows inlinees q.offset) read.1)
 
--- where the rows of the function that begins at a place begin
+-- the starts of the rows of the function that begins at a place
 abbrev pub public_cuts : Program → PdbInternalSectionOffset → Result (List ℕ) Fault
 public_cuts program start = lifted (function_rows program start) >>= λ rows. Ok (row_starts rows)
 
--- such places in a chosen function, by its module's line program and inlinees; a public entry has
+-- such places in a chosen function, from its module's line program and inlinees; a public entry has
 -- no sites
 abbrev pub chosen_cuts : ModuleStream → ExtendedModule → Chosen → Result (List ℕ) Fault
 chosen_cuts stream extended (Proc q) =
@@ -52,18 +52,18 @@ chosen_cuts stream extended (Proc q) =
     Ok (procedure_cuts extended.inlinees q read)
 chosen_cuts stream extended (Public f) = public_cuts extended.program f.start_offset
 
--- the same by the module's stream: line program and inlinees are read first
+-- the same from the module's stream: line program and inlinees are read first
 unfoldable pub cuts_in_stream : ModuleStream → Chosen → Result (List ℕ) Fault
 cuts_in_stream stream c = do
   extended ← lifted (extended_of stream)
   chosen_cuts stream extended c
 
--- places that could be read; none where they couldn't
+-- places that could be read; none where they couldn't be
 abbrev pub cuts_read : Result (List ℕ) Fault → List ℕ
 cuts_read (Ok cuts) = cuts
 cuts_read (Err e) = []
 
--- the same by the module's data; none without data
+-- the same from the module's data; none without data
 abbrev pub cuts_in : Option ModuleData → Chosen → List ℕ
 cuts_in None c = []
 cuts_in (Some known) c = cuts_read (cuts_in_stream known.stream c)
@@ -78,7 +78,7 @@ cuts_if_chosen known (Some c) = cuts_in known c
 abbrev pub count_if_read : Result (List ℕ) Fault → ℕ → ℕ → Result ℕ Fault
 count_if_read cuts offset far = cuts >>= λ cuts. Ok (up_to_next cuts offset far)
 
--- the same by the module's data; without data frames don't change
+-- the same from the module's data; without data frames don't change
 abbrev pub count_in :
     Option ModuleData → Chosen → PdbInternalSectionOffset → ℕ → Result ℕ Fault
 count_in None c place far = Ok far
@@ -103,7 +103,8 @@ cuts_if_frames (Err e) cuts = []
 cuts_if_frames (Ok None) cuts = []
 cuts_if_frames (Ok (Some frames)) cuts = cuts
 
--- where the frames in the function chosen at a place may change, by the contribution that holds it
+-- the places in the function chosen at a place at which its frames may change, from the
+-- contribution that holds it
 abbrev pub cuts_by : Parts → (ℕ → Scope) → PdbInternalSectionOffset
     → Option ModuleSectionContribution → List ℕ
 cuts_by p scope place None = []
@@ -111,8 +112,8 @@ cuts_by p scope place (Some c) =
     let known = module_data (scope c.module_index).own in
     cuts_if_chosen known (chosen p (procedures_in known) c place)
 
--- where the frames may change besides: a line row of the function begins, or a row of one of its
--- inline sites begins or ends
+-- the places at which the frames may change within a function: a line row of the function begins
+-- there, or a row of one of its inline sites begins or ends there
 abbrev pub cuts_here : Parts → (ℕ → Scope) → PdbInternalSectionOffset → List ℕ
 cuts_here p scope place =
     cuts_if_frames (frames_here p scope place)

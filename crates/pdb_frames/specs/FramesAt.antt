@@ -33,7 +33,7 @@ use Rattle.pdb_frames.specs.Scopes.{Scope}
 
 -- ---- frames
 
--- the row whose code begins at a place, by its length, if that place has an image address
+-- the row whose code begins at a place, with its length, if the place has an image address
 abbrev pub frame_row : Parts → PdbInternalSectionOffset → Option ℕ → Option FrameRow
 frame_row p place length =
     option_map (λ a. record { start_rva = a; length = length })
@@ -43,7 +43,7 @@ frame_row p place length =
 abbrev pub call_row : Parts → Option CodeSpan → Option FrameRow
 call_row p code = option_and_then (λ c. frame_row p c.offset (Some c.length)) code
 
--- where a line row begins in a section
+-- the place at which a line row begins in a section
 abbrev pub row_start : ℕ → LineRow → PdbInternalSectionOffset
 row_start section row = record { offset = row.start; section = section }
 
@@ -67,7 +67,7 @@ call_frame p env program call = record {
   row = call_row p call.row;
 }
 
--- the frame of a function that begins in a section, by its row
+-- the frame of a function that begins in a section, with its row
 abbrev pub function_frame :
     Parts → Program → Option (List ℕ) → ℕ → Option LineRow → Frame
 function_frame p program name section row = record {
@@ -92,7 +92,7 @@ row_and_calls stream extended c place = do
   calls ← calls_in stream extended.inlinees c place
   Ok (row, calls)
 
--- The frames at a place in a chosen function, by its module's data: line program and inlinees are
+-- The frames at a place in a chosen function, from its module's data: line program and inlinees are
 -- read first, then row and calls.
 unfoldable pub frames_in_data : Parts → Env → ModuleData → Chosen → PdbInternalSectionOffset
     → Result (List Frame) Fault
@@ -102,8 +102,8 @@ frames_in_data p env known c place = do
   Ok (map (call_frame p env extended.program) found.1
       ++ function_frame p extended.program (name_of p env c) (start_of c).section found.0 ∷ [])
 
--- the frames at a place in a chosen function whose module may have no data: then the function
--- alone, without file, line and row
+-- the frames at a place in a chosen function whose module may have no data: without data the
+-- function alone, without file, line and row
 abbrev pub frames_in : Parts → Env → Option ModuleData → Chosen → PdbInternalSectionOffset
     → Result (List Frame) Fault
 frames_in p env None c place =
@@ -123,15 +123,15 @@ found_frames p c frames start =
 abbrev pub nothing : Option FunctionFrames
 nothing = None
 
--- what may be chosen, with its frames: nothing without it, and nothing where its start has no image
--- address; but a module whose data can't be read comes before that
+-- the function that may be chosen, with its frames: nothing without it, and nothing where its start
+-- has no image address; but a module whose data can't be read comes before this
 abbrev pub frames_of_chosen : Parts → Env → Option ModuleData → PdbInternalSectionOffset
     → Option Chosen → Result (Option FunctionFrames) Fault
 frames_of_chosen p env known place None = Ok None
 frames_of_chosen p env known place (Some c) =
     frames_in p env known c place >>= λ frames. Ok (found_frames p c frames (start_address p c))
 
--- frames that are read and not made: nothing, or the fault of what they are made of
+-- frames that are read and not made: nothing, or the fault of the parts that they are made from
 abbrev pub frames_checked : Parts → Env → Option ModuleData → Chosen → PdbInternalSectionOffset
     → Result (Option FunctionFrames) Fault
 frames_checked p env known c place = frames_in p env known c place >>= λ _. Ok nothing
@@ -162,14 +162,14 @@ function_at p s c place =
 
 -- ---- addresses
 
--- what is answered in the module that holds a place, where one does
+-- the answer in the module that holds a place, where one does
 abbrev pub frames_if_held : Parts → (ℕ → Scope)
     → Option (ModuleSectionContribution × PdbInternalSectionOffset)
     → Result (Option FunctionFrames) Fault
 frames_if_held p scope None = Ok None
 frames_if_held p scope (Some held) = frames_at p (scope (held.0).module_index) held.0 held.1
 
--- the frames at an address of the image, by the scopes of modules
+-- the frames at an address of the image, from the scopes of modules
 unfoldable pub frames : Parts → (ℕ → Scope) → ℕ → Result (Option FunctionFrames) Fault
 frames p scope a = frames_if_held p scope (held_at p (place_of p a))
 

@@ -1,4 +1,4 @@
--- The frames at places in what the code chose, by what it read.
+-- The frames at places in the function that the code chose, from what it read.
 use Rattle.std.specs.Prelude.{◌≡◌, ℕ, List, Option, Result, map}
 use Rattle.std.specs.Global.{Vec}
 use Rattle.pdb_addresses.specs.declared.internal_section_offset.PdbInternalSectionOffset.{
@@ -31,7 +31,7 @@ use Rattle.pdb_symbol_records.specs.Forms.{InlineSiteForm}
 abbrev pub program_of : ExtendedModuleInfo → Program
 program_of extended = (extended_seen extended).program
 
--- the rows of a procedure's inline sites, by the inlinees that were read
+-- the rows of a procedure's inline sites, from the inlinees that were read
 abbrev pub site_rows : ExtendedModuleInfo → Procedure → InlineSiteForm → List LineInfo
 site_rows extended q = call_rows (extended_seen extended).inlinees q.offset
 
@@ -48,22 +48,22 @@ FindsCalls known extended c place result = Answers (λ r. (r.0, r.1.items)) resu
 
 -- ---- frames
 
--- a frame is that of an inlined call
+-- a frame is the frame of an inlined call
 abbrev pub IsCallFrame : Parts → Env → ExtendedModuleInfo → InlinedCall → Frame → Type 0
 IsCallFrame p env extended call frame = frame ≡ call_frame p env (program_of extended) call
 
--- frames are those of inlined calls, in their order
+-- frames are the frames of inlined calls, in their order
 abbrev pub AreOfCalls : Parts → Env → ExtendedModuleInfo → List InlinedCall → Vec Frame → Type 0
 AreOfCalls p env extended calls frames =
     frames.items ≡ map (call_frame p env (program_of extended)) calls
 
--- a frame is that of a function that begins in a section, by its name and its line row
+-- a frame is the frame of a function that begins in a section, with its name and its line row
 abbrev pub IsFunctionFrame : Parts → ExtendedModuleInfo → Option (List ℕ) → ℕ → Option LineRow
     → Frame → Type 0
 IsFunctionFrame p extended name section row frame =
     frame ≡ function_frame p (program_of extended) name section row
 
--- a call gave the frames at a place in a chosen function, by its module's data
+-- a call gave the frames at a place in a chosen function, from its module's data
 abbrev pub FramesInData : Parts → (ℕ → Env) → ModuleData → PlaceInFunction
     → Result (Vec Frame) Error → Type 0
 FramesInData p env known at result = Answers (λ v. v.items) result
@@ -75,7 +75,7 @@ abbrev pub FramesIn : Parts → (ℕ → Env) → Option ModuleData → PlaceInF
 FramesIn p env known at result = Answers (λ v. v.items) result
     (frames_in p (env at.module_index) known (chosen_seen at.chosen) at.place)
 
--- a call read what the frames at a place are made of, whatever they are named by
+-- a call read the parts from which the frames at a place are made, whatever they are named by
 abbrev pub ChecksFrames : Option ModuleData → Chosen → PdbInternalSectionOffset
     → Result (Unit {0}) Error → Type 0
 ChecksFrames known c place result = (p : Parts) (env : Env)

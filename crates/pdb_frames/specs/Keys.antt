@@ -13,14 +13,14 @@ use Rattle.pdb_owners.specs.declared.function_key.FunctionKey.TheVariants as key
 use Rattle.pdb_known_modules.specs.KnownModules.{module_data, procedures_in}
 use Rattle.pdb_module_data.specs.Procedures.{Procedure}
 
--- what a key chooses among its module's procedures and the public list: the procedure with its
--- number, or the public entry of its place
+-- the function that a key chooses among its module's procedures and the public list: the procedure
+-- with its number, or the public entry of its place
 abbrev pub chosen_by : Parts → List Procedure → FunctionKey → Option Chosen
 chosen_by p procedures (keys.Procedure index number) = option_map Proc (slice_get procedures number)
 chosen_by p procedures (keys.Public index place) =
     option_map Public (public_over p.publics place.offset place)
 
--- what a key chooses
+-- the function that a key chooses
 abbrev pub chosen_of_key : Parts → (ℕ → Scope) → FunctionKey → Option Chosen
 chosen_of_key p scope key =
     chosen_by p (procedures_in (module_data (scope (key_module key)).own)) key

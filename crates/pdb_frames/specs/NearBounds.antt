@@ -1,4 +1,4 @@
--- Where answers may change in the section of a place.
+-- The offsets at which answers may change in the section of a place.
 use Rattle.std.specs.Prelude.{ℕ, ◌==◌, List, [], ◌∷◌, ◌++◌, Option, if◌then◌else◌}
 use Rattle.pdb_addresses.specs.SectionRun.{up_to_next}
 use Rattle.std.specs.List.{flat_map}
@@ -12,24 +12,25 @@ use Rattle.pdb_known_modules.specs.SectionBounds.{procedure_bounds}
 use Rattle.pdb_frames.specs.Choice.{Parts}
 use Rattle.pdb_known_modules.specs.KnownModules.{ModuleData, procedures_in}
 
--- where a public entry begins, if it lies in the section of a place
+-- the start of a public entry, if it lies in the section of a place
 abbrev pub public_bounds : PdbInternalSectionOffset → PublicFunction → List ℕ
 public_bounds p f =
     if (f.start_offset).section == p.section then (f.start_offset).offset ∷ [] else []
 
--- where contributions begin and end in the section of a place
+-- the starts and ends of contributions in the section of a place
 abbrev pub contributions_near : Parts → PdbInternalSectionOffset → List ℕ
 contributions_near p place = flat_map (contribution_bounds place) p.contributions
 
--- where public entries begin in it
+-- the starts of public entries in it
 abbrev pub publics_near : List PublicFunction → PdbInternalSectionOffset → List ℕ
 publics_near publics place = flat_map (public_bounds place) publics
 
--- where procedures begin and end in it
+-- the starts and ends of procedures in it
 abbrev pub procedures_near : List Procedure → PdbInternalSectionOffset → List ℕ
 procedures_near procedures place = flat_map (procedure_bounds place) procedures
 
--- where contributions, public entries and these procedures begin and end in the section of a place
+-- the starts and ends of contributions and these procedures, and the starts of public entries, in
+-- the section of a place
 
 abbrev pub bounds_near : Parts → List Procedure → PdbInternalSectionOffset → List ℕ
 bounds_near p procedures place =
@@ -46,8 +47,8 @@ up_to_shared p place far =
     up_to_next (contributions_near p place) place.offset
     (up_to_next (publics_near p.publics place) place.offset far)
 
--- the lesser of a number and the distance from a place to the next bound, by the data of the module
--- that holds the place
+-- the lesser of a number and the distance from a place to the next bound, from the data of the
+-- module that holds the place
 abbrev pub up_to_bound : Parts → Option ModuleData → PdbInternalSectionOffset → ℕ → ℕ
 up_to_bound p known place far =
     up_to_next (bounds_near p (procedures_in known) place) place.offset far

@@ -1,4 +1,4 @@
--- The parts that every question goes over, by what is read of a file.
+-- The parts that every question goes over, from what is read of a file.
 use Rattle.std.specs.Prelude.{ℕ, List, ◌++◌, Option, Result, Ok}
 use Rattle.pdb_container.specs.Fault.{◌>>=◌}
 use Rattle.pdb_addresses.specs.declared.sections.ImageSectionHeader.{ImageSectionHeader}
@@ -23,9 +23,9 @@ parts_over sections map names functions held =
       names = names;
     }
 
--- The parts that every question goes over, by the sections of the image, the address map, the bytes
--- of the symbol records, the contributions of the DBI stream, and the string table. The symbol
--- records have to be there to their end, and then the contributions in order and apart.
+-- The parts that every question goes over, from the sections of the image, the address map, the
+-- bytes of the symbol records, the contributions of the DBI stream, and the string table. The
+-- symbol records have to be there to their end, and then the contributions in order and apart.
 unfoldable pub parts_of :
     List ImageSectionHeader → Map → List ℕ → List ℕ → Option (List ℕ) → Result Parts Fault
 parts_of sections map symbol_records contributions names = do
@@ -39,7 +39,8 @@ parts_of sections map symbol_records contributions names = do
   }
 
 -- The parts as `parts_of` has them, where the contributions may stand in any order: where merging
--- is refused for that, the first one in the order of the file that holds a place is its holder.
+-- is refused for their order, the first one in the order of the file that holds a place is its
+-- holder.
 unfoldable pub parts_in_any_order :
     List ImageSectionHeader → Map → List ℕ → List ℕ → Option (List ℕ) → Result Parts Fault
 parts_in_any_order sections map symbol_records contributions names = do

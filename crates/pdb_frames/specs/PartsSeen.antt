@@ -13,8 +13,8 @@ use Rattle.pdb_symbols_modules.specs.Dbi.{Dbi}
 abbrev pub AreMade : Result Parts Error → Parts → Type 0
 AreMade result parts = Answers (λ p. p) result (Ok parts)
 
--- A call made the parts by the sections of the image, the address map, the symbol records, the DBI
--- stream and the string table, if there is one, or was refused for the fault of reading them.
+-- A call made the parts from the sections of the image, the address map, the symbol records, the
+-- DBI stream and the string table, if there is one, or was refused for the fault of reading them.
 abbrev pub MakesParts : List ImageSectionHeader → Map → List ℕ → Dbi → Option (Bor (List ℕ))
     → Result Parts Error → Type 0
 MakesParts sections map symbol_records header table result = Answers (λ p. p) result

@@ -1,4 +1,4 @@
--- Runs: how far along a section the function stays.
+-- Runs: the distance along a section over which the function stays.
 use Rattle.std.specs.Prelude.{ℕ, Bool, ◌==◌, List, [], Option, None, Some, option_and_then}
 use Rattle.std.specs.List.{list_any}
 use Rattle.pdb_addresses.specs.declared.internal_section_offset.PdbInternalSectionOffset.{

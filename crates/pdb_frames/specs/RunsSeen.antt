@@ -1,4 +1,4 @@
--- How far files and frames go on over a stretch of what the code chose.
+-- The distance over which files and frames go on over a stretch of a chosen function.
 use Rattle.std.specs.Prelude.{◌≡◌, ℕ, List, Option, Result}
 use Rattle.pdb_addresses.specs.SectionRun.{up_to_next}
 use Rattle.pdb_addresses.specs.declared.internal_section_offset.PdbInternalSectionOffset.{
@@ -19,7 +19,7 @@ use Rattle.pdb_resolving.specs.declared.error.Error.{Error}
 
 -- ---- files: the key of the file where the stretch begins, and how far it goes on there
 
--- a call gave these by the rows of a chosen function, with what was read of its module
+-- a call gave key and distance from the rows of a chosen function, with what was read of its module
 abbrev pub RunsByRows : ModuleData → ExtendedModuleInfo → Chosen → Stretch
     → Result (FileKey × ℕ) Error → Type 0
 RunsByRows known extended c s result =
@@ -27,7 +27,7 @@ RunsByRows known extended c s result =
     Answers (λ run. run) result (run_if_read program s.place s.far
     (rows_in known.stream program c))
 
--- the same by the rows of the function of a public entry that begins at a place
+-- the same from the rows of the function of a public entry that begins at a place
 abbrev pub RunsByPublicRows : ExtendedModuleInfo → PdbInternalSectionOffset → Stretch
     → Result (FileKey × ℕ) Error → Type 0
 RunsByPublicRows extended start s result =
@@ -35,7 +35,7 @@ RunsByPublicRows extended start s result =
     Answers (λ run. run) result (run_if_read program s.place s.far
     (lifted (function_rows program start)))
 
--- the same by a module's data: line program and inlinees are read before the rows
+-- the same from a module's data: line program and inlinees are read before the rows
 abbrev pub RunsInData : ModuleData → Chosen → Stretch → Result (FileKey × ℕ) Error → Type 0
 RunsInData known c s result =
     Answers (λ run. run) result (file_run_in known.stream c s.place s.far)
@@ -50,21 +50,22 @@ RunsIn known c s result = Answers (λ run. run) result (file_run_of known c s.pl
 abbrev pub IsNextCut : List ℕ → Stretch → ℕ → Type 0
 IsNextCut cuts s n = n ≡ up_to_next cuts s.place.offset s.far
 
--- a call gave it by the rows and sites of a chosen function, with what was read of its module
+-- a call gave the distance from the rows and sites of a chosen function, with what was read of its
+-- module
 abbrev pub ReachesByRows : ModuleData → ExtendedModuleInfo → Chosen → Stretch → Result ℕ Error
     → Type 0
 ReachesByRows known extended c s result =
     Answers (λ n. n) result (count_if_read
     (chosen_cuts known.stream (extended_seen extended) c) s.place.offset s.far)
 
--- the same by the rows of the function of a public entry that begins at a place
+-- the same from the rows of the function of a public entry that begins at a place
 abbrev pub ReachesByPublicRows : ExtendedModuleInfo → PdbInternalSectionOffset → Stretch
     → Result ℕ Error → Type 0
 ReachesByPublicRows extended start s result =
     Answers (λ n. n) result (count_if_read
     (public_cuts (extended_seen extended).program start) s.place.offset s.far)
 
--- the same by a module's data: line program and inlinees are read before the rows
+-- the same from a module's data: line program and inlinees are read before the rows
 abbrev pub ReachesInData : ModuleData → Chosen → Stretch → Result ℕ Error → Type 0
 ReachesInData known c s result =
     Answers (λ n. n) result (count_if_read (cuts_in_stream known.stream c) s.place.offset s.far)

@@ -1,4 +1,4 @@
-//! What is chosen at a place.
+//! The function that is chosen at a place.
 
 ghost use Rattle.std.specs.Prelude.{◌≡◌, option_copied, option_map};
 ghost use Rattle.pdb_addresses.specs.Addresses.{outer_of_place};
@@ -24,21 +24,21 @@ pub enum Chosen<'c, 'a> {
     Public(&'c PublicFunction<'a>),
 }
 
-/// Where a chosen function ends.
+/// The end of a chosen function.
 #[derive(Clone, Copy)]
 pub enum FunctionEnd {
     /// At an RVA.
     At(u32),
-    /// That isn't known: no public entry is after this one in its section, or the end lies past
+    /// At no known address: no public entry is after this one in its section, or the end lies past
     /// 32 bits.
     Unknown,
     /// The public entry after this one has no RVA. Then this one is no function.
     NoFunction,
 }
 
-/// Returns what is chosen at a place that a contribution holds, by its module's data and the index
-/// of the procedure over the place. It is that procedure, if there is one. Else it is the entry of
-/// the public list, unless that entry lies before the contribution.
+/// Returns the function that is chosen at a place that a contribution holds, from its module's data
+/// and the index of the procedure over the place. It is this procedure, if there is one. Otherwise
+/// it is the entry of the public list, unless the entry lies before the contribution.
 pub fn choose<'c, 'a, I: ModuleTables>(
     parts: &'c ContextParts<'a, '_>,
     known: Option<&'c BasicModuleInfo<'a, I>>,
@@ -72,7 +72,7 @@ pub fn rva_of(parts: &ContextParts<'_, '_>, place: PdbInternalSectionOffset) -> 
 }
 
 impl<'c, 'a> Chosen<'c, 'a> {
-    /// Returns where it begins.
+    /// Returns the place at which the function begins.
     pub fn start(self) -> PdbInternalSectionOffset
         ensures { result ≡ start_of (chosen_seen self.entry) }
     {
@@ -82,15 +82,15 @@ impl<'c, 'a> Chosen<'c, 'a> {
         }
     }
 
-    /// Returns the RVA at which it begins, if it has one.
+    /// Returns the RVA at which the function begins, if it has one.
     pub fn start_rva(self, parts: &ContextParts<'_, '_>) -> Option<u32>
         ensures { result ≡ start_address parts.now (chosen_seen self.entry) }
     {
         rva_of(parts, self.start())
     }
 
-    /// Returns its length in bytes, if that is known. A public entry goes on to the next one of its
-    /// section.
+    /// Returns the function's length in bytes, if it is known. A public entry goes on to the next
+    /// one of its section.
     fn len(self, parts: &ContextParts<'_, '_>) -> Option<u32>
         ensures { result ≡ length_of parts.now (chosen_seen self.entry) }
     {
@@ -107,15 +107,16 @@ impl<'c, 'a> Chosen<'c, 'a> {
         }
     }
 
-    /// Returns the RVA at which its frames end, if that is known: the sum of its start and its
-    /// length, below 2^32.
+    /// Returns the RVA at which the function's frames end, if it is known: the sum of its start and
+    /// its length, below 2^32.
     pub fn end_of_frames(self, parts: &ContextParts<'_, '_>, start_rva: u32) -> Option<u32>
         ensures { result ≡ end_behind start_rva (length_of parts.now (chosen_seen self.entry)) }
     {
         start_rva.checked_add(self.len(parts)?)
     }
 
-    /// Returns where it ends as a function: a public entry at the next one in its section.
+    /// Returns the end of the chosen function as a function: a public entry ends at the next one in
+    /// its section.
     pub fn end_of_function(self, parts: &ContextParts<'_, '_>, start_rva: u32) -> FunctionEnd
         ensures { end_seen result ≡ function_end parts.now (chosen_seen self.entry) start_rva }
     {

@@ -31,7 +31,7 @@ fn public_name<'p, 'a>(
 }
 
 /// A procedure's name in the module with that index: the decorated public name in place of its own,
-/// or that by its type.
+/// or the name by its type.
 fn procedure_name<'a, P: ModuleProvider>(
     alloc: Global,
     parts: &ContextParts<'_, '_>,

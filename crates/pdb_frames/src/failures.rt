@@ -86,9 +86,9 @@ fn failing_module<I: ModuleTables>(
     }
 }
 
-/// Returns the first part that can't be read of those from which the frames in a chosen function
-/// are made: line program with inlinees, the function's rows, or a procedure's inline sites. It is
-/// `None` where the module has no data. A cached line program isn't read again.
+/// Returns the first part that can't be read of the parts from which the frames in a chosen
+/// function are made: line program with inlinees, the function's rows, or a procedure's inline
+/// sites. It is `None` where the module has no data. A cached line program isn't read again.
 ///
 /// # Errors
 /// `AllocError` when memory runs out.

@@ -23,7 +23,7 @@ use pdb_owners::{FileAnswer, FileKey};
 use pdb_resolving::{ModuleTables, Result};
 use std::alloc::{AllocError, Global};
 
-/// Returns the key of a row's file, by its module's line program. No file is known without a row,
+/// Returns the key of a row's file, from its module's line program. No file is known without a row,
 /// or where the file has no entry among the module's checksums.
 fn row_key(line_program: &LineProgram<'_>, row: Option<LineRow>) -> FileKey
     ensures { result ≡ key_of_row line_program.now row }
@@ -37,7 +37,8 @@ fn row_key(line_program: &LineProgram<'_>, row: Option<LineRow>) -> FileKey
     }
 }
 
-/// A place in a function of a module, and how many bytes from there on have the same function.
+/// A place in a function of a module, and the number of bytes from there on that have this
+/// function.
 #[derive(Clone, Copy)]
 pub struct Stretch {
     /// The module's index, counted from 0.
@@ -50,7 +51,7 @@ pub struct Stretch {
 
 impl Stretch {
     /// Returns the key of the file at the place, and the distance to the next row, or to the end
-    /// where that is nearer, by the function's line rows.
+    /// where this is nearer, from the function's line rows.
     fn run_by_rows(self, line_program: &LineProgram<'_>, rows: &FunctionRows) -> (FileKey, u32)
         ensures { result ≡ run_by_rows line_program.now self.place self.far rows.now }
     {
@@ -59,7 +60,7 @@ impl Stretch {
     }
 }
 
-/// Returns the key of the file at a place in a procedure, and how far it goes on, by its module's
+/// Returns the key of the file at a place in a procedure, and how far it goes on, from its module's
 /// line program and inlinees. Cached rows and sites of the procedure are not read again.
 #[tactic(auto, using(pdb_resolving::proofs::Lifting::fails_on))]
 fn procedure_run<'m, I: ModuleTables>(
@@ -81,7 +82,7 @@ fn procedure_run<'m, I: ModuleTables>(
 }
 
 /// Returns the key of the file at a place in the function of a public entry, and how far it goes
-/// on, by its module's line program. Cached rows of that function are not read again.
+/// on, from its module's line program. Cached rows of the function are not read again.
 #[tactic(auto, using(pdb_resolving::proofs::Lifting::given_fails_on))]
 fn public_run<'m, I: ModuleTables>(
     alloc: Global,
@@ -100,7 +101,7 @@ fn public_run<'m, I: ModuleTables>(
     Ok(stretch.run_by_rows(&extended.line_program, &rows))
 }
 
-/// Returns the key of the file at a place in a chosen function, and how far it goes on, by its
+/// Returns the key of the file at a place in a chosen function, and how far it goes on, from its
 /// module's line program and inlinees.
 fn chosen_run<'m, I: ModuleTables>(
     alloc: Global,
@@ -120,7 +121,7 @@ fn chosen_run<'m, I: ModuleTables>(
     }
 }
 
-/// Returns the key of the file at a place in a chosen function, and how far it goes on, by its
+/// Returns the key of the file at a place in a chosen function, and how far it goes on, from its
 /// module's data. A cached line program is not read again.
 #[tactic(auto, using(pdb_resolving::proofs::Lifting::given_fails_on), unfolding(crate::specs::FileRuns::file_run_in))]
 fn data_run<'m, I: ModuleTables>(

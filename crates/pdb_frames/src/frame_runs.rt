@@ -1,4 +1,4 @@
-//! How far the frames at a place in a chosen function go on.
+//! The distance over which the frames at a place in a chosen function go on.
 
 ghost use Rattle.std.specs.Prelude.{◌≡◌, ◌++◌, IfOk, Ok, option_copied};
 ghost use Rattle.pdb_frames.specs.ChosenSeen.{chosen_seen};
@@ -21,8 +21,8 @@ use pdb_module_data::{FunctionRows, InlineRanges, Procedure};
 use pdb_resolving::{Error, ModuleTables, Result};
 use std::alloc::{AllocError, Global};
 
-/// Returns how far the line row and the inlined calls at a place in a procedure stay, by the
-/// procedure's rows and sites.
+/// Returns the distance over which the line row and the inlined calls at a place in a procedure
+/// stay, from the procedure's rows and sites.
 #[tactic(auto, using(crate::proofs::FrameRunSteps::next_of_both))]
 fn procedure_count_by(stretch: Stretch, rows: &FunctionRows, ranges: &InlineRanges<'_>) -> u32
     ensures { IsNextCut (row_starts rows.now ++ cuts_of ranges.now.rows) stretch result }
@@ -31,8 +31,8 @@ fn procedure_count_by(stretch: Stretch, rows: &FunctionRows, ranges: &InlineRang
     rows.to_next_start(offset, ranges.to_next_cut(offset, stretch.far))
 }
 
-/// Returns how far the frames at a place in a procedure go on, by its module's line program and
-/// inlinees. Cached rows and sites of the procedure are not read again.
+/// Returns the distance over which the frames at a place in a procedure go on, from its module's
+/// line program and inlinees. Cached rows and sites of the procedure are not read again.
 #[tactic(auto, using(pdb_resolving::proofs::Lifting::fails_on))]
 fn procedure_count<'m, I: ModuleTables>(
     alloc: Global,
@@ -52,8 +52,8 @@ fn procedure_count<'m, I: ModuleTables>(
     Ok(procedure_count_by(stretch, &read.rows, &read.ranges))
 }
 
-/// Returns how far the frames at a place in the function of a public entry go on, by its module's
-/// line program. Cached rows of that function are not read again.
+/// Returns the distance over which the frames at a place in the function of a public entry go on,
+/// from its module's line program. Cached rows of the function are not read again.
 #[tactic(auto, using(crate::proofs::FrameRunSteps::count_fails))]
 fn public_count<'m, I: ModuleTables>(
     alloc: Global,
@@ -73,8 +73,8 @@ fn public_count<'m, I: ModuleTables>(
     Ok(rows.to_next_start(offset, stretch.far))
 }
 
-/// Returns how far the frames at a place in a chosen function go on, by its module's line program
-/// and inlinees.
+/// Returns the distance over which the frames at a place in a chosen function go on, from its
+/// module's line program and inlinees.
 fn chosen_count<'m, I: ModuleTables>(
     alloc: Global,
     known: &BasicModuleInfo<'m, I>,
@@ -95,8 +95,8 @@ fn chosen_count<'m, I: ModuleTables>(
     }
 }
 
-/// Returns how far the frames at a place in a chosen function go on, by its module's data. A cached
-/// line program is not read again.
+/// Returns the distance over which the frames at a place in a chosen function go on, from its
+/// module's data. A cached line program is not read again.
 #[tactic(auto, using(crate::proofs::FrameRunSteps::count_fails), unfolding(crate::specs::FrameRuns::cuts_in_stream))]
 fn data_count<'m, I: ModuleTables>(
     alloc: Global,
@@ -113,9 +113,9 @@ fn data_count<'m, I: ModuleTables>(
     chosen_count(alloc, known, &extended, chosen, stretch)
 }
 
-/// Returns how far the frames at a place in a chosen function go on: the distance to the next start
-/// of a line row, or the next start or end of a row of one of the function's inline sites; or the
-/// whole stretch where that is shorter.
+/// Returns the distance over which the frames at a place in a chosen function go on: up to the next
+/// start of a line row, or the next start or end of a row of one of the function's inline sites; or
+/// the whole stretch where that is shorter.
 fn count_of_frames<I: ModuleTables>(
     alloc: Global,
     known: Option<&BasicModuleInfo<'_, I>>,
@@ -130,9 +130,9 @@ fn count_of_frames<I: ModuleTables>(
     }
 }
 
-/// Returns how far the frames at a place in a chosen function go on: the distance to the next start
-/// of a line row, or the next start or end of a row of one of the function's inline sites; or the
-/// whole stretch where that is shorter, or where such rows can't be read.
+/// Returns the distance over which the frames at a place in a chosen function go on: up to the next
+/// start of a line row, or the next start or end of a row of one of the function's inline sites; or
+/// the whole stretch where that is shorter, or where such rows can't be read.
 ///
 /// # Errors
 /// [`AllocError`] where memory is refused.

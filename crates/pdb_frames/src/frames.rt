@@ -35,8 +35,8 @@ use std::alloc::{AllocError, Global};
 use std::borrow::CowStr;
 use std::sync::ArcStr;
 
-/// The line row of a place in a procedure, and the inlined calls over the place, by the procedure's
-/// rows and sites.
+/// The line row of a place in a procedure, and the inlined calls over the place, from the
+/// procedure's rows and sites.
 fn row_and_calls_by<'a>(
     alloc: Global,
     extended: &ExtendedModuleInfo<'a>,
@@ -55,7 +55,7 @@ fn row_and_calls_by<'a>(
 }
 
 /// The line row of a place in a procedure, and the inlined calls over the place, innermost first,
-/// by its module's line program and inlinees. What is cached of the procedure is used, or else it
+/// from its module's line program and inlinees. What is cached of the procedure is used, or else it
 /// is read.
 #[tactic(auto, using(crate::proofs::ProcedureSteps::row_and_calls_are, crate::proofs::ProcedureSteps::row_and_calls_fail))]
 fn procedure_row_and_calls<'m, I: ModuleTables>(
@@ -78,8 +78,8 @@ fn procedure_row_and_calls<'m, I: ModuleTables>(
     Ok(found)
 }
 
-/// The line row of a place in the function that begins at another one, by its module's line
-/// program. The cached rows of that function are used, or else they are read.
+/// The line row of a place in the function that begins at another place, from its module's line
+/// program. The cached rows of the function are used, or else they are read.
 fn public_row<'m, I: ModuleTables>(
     alloc: Global,
     known: &BasicModuleInfo<'m, I>,
@@ -138,7 +138,7 @@ fn file_of<'a>(
     }
 }
 
-/// The row whose code begins at a place, if that has an RVA.
+/// The row whose code begins at a place, if the place has an RVA.
 fn frame_row(
     parts: &ContextParts<'_, '_>,
     place: PdbInternalSectionOffset,
@@ -217,7 +217,7 @@ fn call_frames<'a, P: ModuleProvider>(
     Ok(frames)
 }
 
-/// The frame of a function that begins in a section, by its name and its line row.
+/// The frame of a function that begins in a section, from its name and its line row.
 fn function_frame<'a>(
     alloc: Global,
     parts: &ContextParts<'a, '_>,
@@ -259,9 +259,9 @@ pub struct PlaceInFunction<'c, 'a> {
     pub place: PdbInternalSectionOffset,
 }
 
-/// The frames at a place in a chosen function, by its module's line program and inlinees: the rows
-/// of the function's subsection and a procedure's sites are read in this order, and the first fault
-/// is returned.
+/// The frames at a place in a chosen function, from its module's line program and inlinees: the
+/// rows of the function's subsection and a procedure's sites are read in this order, and the first
+/// fault is returned.
 #[tactic(auto, using(pdb_resolving::proofs::Lifting::given_fails_on, pdb_resolving::proofs::Lifting::parsed_fails_on, pdb_resolving::proofs::Lifting::fails_on), unfolding(crate::specs::FramesAt::frames_in_data))]
 fn frames_by<'a, 'm, P: ModuleProvider>(
     alloc: Global,
@@ -297,8 +297,8 @@ fn frames_by<'a, 'm, P: ModuleProvider>(
     Ok(frames)
 }
 
-/// The frames at a place in a chosen function, by its module's data: line program and inlinees are
-/// the cached ones, or else are read first, and their first fault is returned.
+/// The frames at a place in a chosen function, from its module's data: line program and inlinees
+/// are the cached ones, or else are read first, and their first fault is returned.
 #[tactic(auto, using(pdb_resolving::proofs::Lifting::given_fails_on), unfolding(crate::specs::FramesAt::frames_in_data))]
 fn frames_in_data<'a, P: ModuleProvider>(
     alloc: Global,
@@ -318,11 +318,11 @@ fn frames_in_data<'a, P: ModuleProvider>(
     frames_by(alloc, parts, namer, known, extended, at)
 }
 
-/// The frames at a place in a chosen function whose module may have no data: then the function
-/// alone, without file, line and row.
+/// The frames at a place in a chosen function whose module may have no data: without data the
+/// function alone, without file, line and row.
 ///
 /// # Errors
-/// The first fault of those parts of the module that the frames are made of; `OutOfMemory`.
+/// The first fault of the module's parts from which the frames are made; `OutOfMemory`.
 pub fn frames_in<'a, P: ModuleProvider>(
     alloc: Global,
     parts: &ContextParts<'a, '_>,
@@ -350,11 +350,11 @@ pub fn frames_in<'a, P: ModuleProvider>(
     }
 }
 
-/// Reads what the frames at a place in a chosen function are made of, as [`frames_in`] does, and
-/// makes none of them.
+/// Reads the parts from which the frames at a place in a chosen function are made, as [`frames_in`]
+/// does, and makes no frames.
 ///
 /// # Errors
-/// As [`frames_in`].
+/// The errors of [`frames_in`].
 #[tactic(auto, using(pdb_resolving::proofs::Lifting::given_fails_on, pdb_resolving::proofs::Lifting::fails_on), unfolding(crate::specs::FramesAt::frames_in_data))]
 pub fn check_frames<I: ModuleTables>(
     alloc: Global,

@@ -9,8 +9,8 @@ ghost use Rattle.pdb_frames.specs.Runs.{database_of};
 ghost use Rattle.pdb_frames.specs.Scopes.{Scope};
 ghost use Rattle.pdb_owners.specs.Databases.{AnswersWhere, ChangesAtBounds};
 
-/// There is one frame more at an address than the deepest inline site over its place is deep: one
-/// alone where no site is over it, in a public entry, and in a module without data.
+/// The number of frames at an address is one more than the depth of the deepest inline site over
+/// its place: one alone where no site is over it, in a public entry, and in a module without data.
 pub fn frames_as_deep()
     ensures { (parts : Parts) (scope : ℕ → Scope) → FramesAreAsDeep parts scope }
 {}
@@ -22,8 +22,8 @@ pub fn functions_have_files()
         → AnswersWhere (files_of parts scope) (database_of parts scope) }
 {}
 
-/// Answers change at bounds alone: a place that is none has the function, the file, and the frames
-/// with their rows, of the place before it in its section.
+/// Answers change at bounds alone: a place that is no bound has the function, the file, and the
+/// frames with their rows, of the place before it in its section.
 pub fn answers_change_at_bounds()
     ensures functions { (parts : Parts) (scope : ℕ → Scope)
         → ChangesAtBounds (database_of parts scope) }

@@ -1,8 +1,8 @@
-//! What is chosen at a place: a procedure, or an entry of the public list. Then what is answered
-//! there: the name of what is chosen, the frames in it, and its file; which part of an answer can't
+//! The function that is chosen at a place: a procedure, or an entry of the public list. Then its
+//! answers: the name of the function, the frames in it, and its file; which part of an answer can't
 //! be read, and how far one answer goes on. Nothing is cached between questions.
 //!
-//! How a place is searched, and in which order things are found, may change. What is chosen at a
+//! The search of a place may change, and the order in which things are found. What is chosen at a
 //! place (`specs/Choice`), and which name, frames and file it has (`specs/FramesAt`,
 //! `specs/FileRuns`) may not, since each answer is stated by them.
 #![tactic(auto)]

@@ -128,7 +128,7 @@ impl<'a, 's> ContextParts<'a, 's> {
     /// contributions of the DBI stream.
     ///
     /// # Errors
-    /// `SymbolTooShort` and `UnexpectedEof` of the symbol records, as `PdbError`; those of
+    /// `SymbolTooShort` and `UnexpectedEof` of the symbol records, as `PdbError`; the errors of
     /// [`compute_section_contributions`]; `OutOfMemory`.
     #[tactic(auto, using(pdb_resolving::proofs::Lifting::given_fails_on, pdb_resolving::proofs::Lifting::fails_on), unfolding(crate::specs::Parts::parts_of))]
     pub fn new(
@@ -149,11 +149,11 @@ impl<'a, 's> ContextParts<'a, 's> {
     }
 
     /// Makes the parts as [`ContextParts::new`], where section contributions may stand in any
-    /// order: where merging them is refused for that, the first one in the order of the file that
-    /// holds a place is its holder.
+    /// order: where merging them is refused for their order, the first one in the order of the file
+    /// that holds a place is its holder.
     ///
     /// # Errors
-    /// As [`ContextParts::new`], but for `UnorderedSectionContributions`.
+    /// The errors of [`ContextParts::new`], but for `UnorderedSectionContributions`.
     #[tactic(auto, using(pdb_resolving::proofs::Lifting::given_fails_on, pdb_resolving::proofs::Lifting::fails_on), unfolding(crate::specs::Parts::parts_in_any_order))]
     pub fn in_any_order(
         alloc: Global,
@@ -175,7 +175,7 @@ impl<'a, 's> ContextParts<'a, 's> {
     /// Checks that the parts can be made, whatever the address map and the names are.
     ///
     /// # Errors
-    /// As [`ContextParts::new`].
+    /// The errors of [`ContextParts::new`].
     #[tactic(auto, using(crate::proofs::CheckedParts::as_checked))]
     pub fn check(
         alloc: Global,

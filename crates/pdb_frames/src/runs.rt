@@ -1,4 +1,4 @@
-//! How far along a section answers stay the same.
+//! The distance along a section over which answers stay the same.
 
 ghost use Rattle.std.specs.Prelude.{◌≡◌, [], option_copied};
 ghost use Rattle.pdb_addresses.specs.SectionRun.{up_to_next};
@@ -80,7 +80,7 @@ pub fn to_next_shared_bound(
 }
 
 /// Returns the lesser of `limit` and the distance from a place to the next place at which an answer
-/// may change, by the data of the module that holds it.
+/// may change, from the data of the module that holds it.
 #[tactic(auto, using(pdb_contributions::proofs::NextBounds::next_of_all))]
 pub fn to_next_bound<I: ModuleTables>(
     parts: &ContextParts<'_, '_>,

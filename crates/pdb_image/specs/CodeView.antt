@@ -20,7 +20,7 @@ abbrev pub Returns : {X Y : Type 0} → (X → Y) → Result X ImageError → Re
 Returns view (Ok x) reading = reading ≡ Ok (view x)
 Returns view (Err e) reading = reading ≡ Err e
 
--- what a record says: the identity of the PDB, and its path
+-- the content of a record: the identity of the PDB, and the PDB's path
 pub record CodeView : Type 0 where
   pub identity : PdbIdentity
   pub path : List ℕ
@@ -35,7 +35,7 @@ abbrev pub place_in : ℕ → ImageSectionHeader → Option ℕ
 place_in address s =
     if holds address s then Some (s.pointer_to_raw_data + (address - s.virtual_address)) else None
 
--- the place in the file of an address, by the first section whose data hold it
+-- the place in the file of an address, in the first section whose data hold it
 abbrev pub place_of : ℕ → List ImageSectionHeader → Option ℕ
 place_of address [] = None
 place_of address (s ∷ sections) = option_or (place_in address s) (place_of address sections)
@@ -55,12 +55,12 @@ abbrev pub is_rsds : List ℕ → List ℕ → Bool
 is_rsds file entry =
     is_code_view entry && starts_with nat_eq (drop (word_at entry 24) file) (codes "RSDS")
 
--- what comes before a NUL, if there is one
+-- the bytes before a NUL, if there is one
 abbrev pub ended_at : List ℕ → Option ℕ → Result (List ℕ) ImageError
 ended_at bytes None = Err faults.PathNotEnded
 ended_at bytes (Some end) = Ok (take end bytes)
 
--- the path that bytes begin with: what comes before the first NUL
+-- the path that bytes begin with: the bytes before the first NUL
 unfoldable pub path_of : List ℕ → Result (List ℕ) ImageError
 path_of bytes = ended_at bytes (position (λ byte. byte == 0) bytes)
 

@@ -17,9 +17,9 @@ use Rattle.pdb_image.specs.declared.fault.UnwindFault.TheVariants as faults
 
 -- ---- the codes of one table
 
--- How many slots of two bytes a code takes, by its operation's number and its information: none is
--- known of other operations, of an allocation whose information is neither 0 nor 1, and of a
--- machine frame of such information.
+-- The number of slots, of two bytes each, that a code takes, from its operation's number and its
+-- information: none is known of other operations, and of an allocation and a machine frame whose
+-- information is neither 0 nor 1.
 abbrev pub slots_of : ℕ → ℕ → Option ℕ
 slots_of op info =
     if op == 0 || (op == 2) || (op == 3) || (op == 10 && nat_le info 1) then Some 1
@@ -27,7 +27,8 @@ slots_of op info =
     else if op == 5 || (op == 7) || (op == 9) || (op == 1 && (info == 1)) then Some 3
     else None
 
--- what a code of one slot did; the byte of the frame register has its number and its offset by 16
+-- the operation of a code of one slot; the frame byte has the register's number and its offset by
+-- 16
 abbrev pub one_slot : ℕ → ℕ → ℕ → UnwindOperation
 one_slot frame op info =
     if op == 0 then operations.Push info
@@ -35,21 +36,22 @@ one_slot frame op info =
     else if op == 3 then operations.SetFrame (frame % 16) (frame / 16 * 16)
     else operations.MachineFrame (info == 1)
 
--- What a code of two slots did, by its operand; epilogs and saved vector registers are no step.
+-- The operation of a code of two slots, from its operand; epilogs and saved vector registers are no
+-- step.
 abbrev pub two_slots : ℕ → ℕ → ℕ → Option UnwindOperation
 two_slots op info operand =
     if op == 1 then Some (operations.Allocate (operand * 8))
     else if op == 4 then Some (operations.Save info (operand * 8)) else None
 
--- What a code of three slots did, by its operand; spare codes and saved vector registers are no
--- step.
+-- The operation of a code of three slots, from its operand; spare codes and saved vector registers
+-- are no step.
 abbrev pub three_slots : ℕ → ℕ → ℕ → Option UnwindOperation
 three_slots op info operand =
     if op == 1 then Some (operations.Allocate operand)
     else if op == 5 then Some (operations.Save info operand) else None
 
--- what a code of so many slots did, if it is a step: its operand lies in the bytes after the first
--- slot
+-- the operation of a code of so many slots, if it is a step: its operand lies in the bytes after
+-- the first slot
 abbrev pub operation_of : ℕ → ℕ → ℕ → List ℕ → Option UnwindOperation
 operation_of frame kind slots operands =
     if slots == 1 then Some (one_slot frame (kind % 16) (kind / 16))
@@ -145,8 +147,8 @@ abbrev pub with_parent : List UnwindCode → Option ℕ
 with_parent codes None of = Ok codes
 with_parent codes (Some parent) of = of parent >>= λ others. Ok (codes ++ others)
 
--- The codes of at most so many tables, each one after that whose parent it is, and of which a
--- pointer counts as one.
+-- The codes of at most so many tables, each table after the one whose parent it is; a pointer
+-- counts as a table.
 unfoldable pub chain : Image → ℕ → Bool → ℕ → Result (List UnwindCode) UnwindFault
 chain image zero of_parent info = Err faults.TooManyParents
 chain image (suc left) of_parent info = do
@@ -166,7 +168,7 @@ is_machine_frame code = is_machine_operation code.operation
 
 -- The unwind codes of the function whose unwind information lies at an address: its own, its
 -- parent's after them, and so on, at most 33 tables, in each one the last step first. A machine
--- frame is pushed before all else.
+-- frame is pushed before any other step.
 unfoldable pub codes_of : Image → ℕ → Result (List UnwindCode) UnwindFault
 codes_of image info = do
   codes ← chain image 33 false info
@@ -197,7 +199,7 @@ abbrev pub table_behind : List UnwindCode → Result Table UnwindFault → Resul
 table_behind codes reading =
     reading >>= λ table. Ok (record { codes = codes ++ table.codes; parent = table.parent })
 
--- What a call returned, seen by view, is what a reading gives, unless memory was short.
+-- A call returned what a reading gives, seen by view, unless memory was short.
 abbrev pub Gives : {X Y : Type 0} → (X → Y) → Result X UnwindFault → Result Y UnwindFault → Type 0
 Gives view (Ok x) reading = reading ≡ Ok (view x)
 Gives view (Err e) reading = (e ≡ faults.OutOfMemory) ⊎ (reading ≡ Err e)

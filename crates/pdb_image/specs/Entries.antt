@@ -22,7 +22,7 @@ entry_in bytes = record {
   info = word_at bytes 8;
 }
 
--- an entry before others, if it is there; else the list ends
+-- an entry before others, if it is there; otherwise the list ends
 abbrev pub entry_before : Option (List ℕ) → List FunctionEntry → List FunctionEntry
 entry_before None others = []
 entry_before (Some bytes) others = entry_in bytes ∷ others
@@ -63,13 +63,13 @@ abbrev pub function_before : Option UnwoundFunction → ℕ → (ℕ → List Un
 function_before None last others = others last
 function_before (Some f) last others = f ∷ others f.end
 
--- The functions of entries, in order: left out is an entry that isn't taken.
+-- The functions of entries, in order; an entry that isn't taken is left out.
 unfoldable pub functions_of : Image → List FunctionEntry → ℕ → List UnwoundFunction
 functions_of image [] last = []
 functions_of image (entry ∷ entries) last =
     function_before (taken image last entry) last (functions_of image entries)
 
--- the functions of an image, by its exception directory
+-- the functions of an image, from its exception directory
 unfoldable pub functions_in : Image → Result (List UnwoundFunction) ImageError
 functions_in image = do
   directory ← exception_directory_of image

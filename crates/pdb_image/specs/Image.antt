@@ -1,5 +1,4 @@
--- What a PE image says of itself by its headers: the DOS header, the COFF header, the optional
--- header, section headers.
+-- PE images, from their DOS header, COFF header, optional header and section headers.
 -- The layout is that of Microsoft's PE Format.
 use Rattle.std.specs.Prelude.{ℕ, ◌+◌, ◌*◌, ◌/◌, ◌^◌, List, length, take, drop, map, codes}
 use Rattle.std.specs.Prelude.{nat_lt, nat_le, nat_eq, ◌==◌, if◌then◌else◌, Option, None, Some}
@@ -20,7 +19,7 @@ abbrev pub part : List ℕ → ℕ → ℕ → Option (List ℕ)
 part bytes place size =
     if nat_lt (length bytes) (place + size) then None else Some (take size (drop place bytes))
 
--- the entries of that many bytes each; bytes at the end that make no whole one are none
+-- the entries of that many bytes each; fewer bytes at the end are no entry
 abbrev pub entries : ℕ → List ℕ → List (List ℕ)
 entries size bytes = first_chunks size (length bytes / size) bytes
 
@@ -69,8 +68,8 @@ optional_of bytes =
 
 -- ---- the image
 
--- an image: its bytes, its machine's number, its time stamp, where it wants to be loaded, how much
--- memory it takes, the bytes of its optional header, its sections, and its debug directory
+-- an image: its bytes, its machine's number, its time stamp, its image base, its size in memory,
+-- the bytes of its optional header, its sections, and its debug directory
 pub record Image : Type 0 where
   pub file : List ℕ
   pub machine : ℕ
@@ -81,10 +80,10 @@ pub record Image : Type 0 where
   pub sections : List ImageSectionHeader
   pub debug : Option DataDirectory
 
--- What a file says that begins with "MZ". At 60 of its DOS header stands the place of "PE" and two
--- NULs. After these come the COFF header's 20 bytes, the optional header, and the section headers,
--- 40 bytes each. The COFF header says how many sections there are and how long the optional header
--- is.
+-- The image in a file that begins with "MZ". At 60 of its DOS header stands the place of "PE" and
+-- two NULs. After these come the COFF header's 20 bytes, the optional header, and the section
+-- headers, 40 bytes each. The COFF header says how many sections there are and how long the
+-- optional header is.
 unfoldable pub image_of : List ℕ → Result Image ImageError
 image_of file = do
   dos ← guard (starts_with nat_eq file (codes "MZ")) faults.NoDosSignature

@@ -1,4 +1,4 @@
--- How a consumer of a symbol file reads the records of a function, and the law of unwinding.
+-- The reading of a function's records by a consumer of a symbol file, and the law of unwinding.
 use Rattle.std.specs.Prelude.{◌≡◌, ℕ, ◌+◌, ◌-◌, ◌<◌, ◌≤◌, ◌&&◌, List, [], ◌∷◌, nat_lt, nat_le}
 use Rattle.std.specs.Prelude.{if◌then◌else◌, Option, None, Some, IsTrue}
 use Rattle.std.specs.Option.{option_or}
@@ -14,8 +14,8 @@ named register [] = None
 named register (r ∷ rules) =
     if same_register r.register register then Some r.expression else named register rules
 
--- a register's expression at an address, by changes in order: each one at or before the address
--- replaces that of the registers that it names, and leaves others as they were
+-- a register's expression at an address, from changes in order: each change at or before the
+-- address replaces the expressions of the registers that it names, and leaves others as they were
 abbrev pub read_changes : ℕ → Register → Option Expression → List Change → Option Expression
 read_changes address register before [] = before
 read_changes address register before (c ∷ changes) =
@@ -23,7 +23,7 @@ read_changes address register before (c ∷ changes) =
     (if nat_le c.address address then option_or (named register c.rules) before else before)
     changes
 
--- a register's expression at an address, by the records of a function; none outside of its range
+-- a register's expression at an address, from the function's records; none outside of its range
 unfoldable pub read_records : Records → ℕ → Register → Option Expression
 read_records r address register =
     if nat_le r.begin address && nat_lt address (r.begin + r.size)

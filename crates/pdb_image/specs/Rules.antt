@@ -26,7 +26,7 @@ use Rattle.pdb_image.specs.declared.frame.Steps.{Steps}
 abbrev pub done : ℕ → List UnwindCode → List UnwindCode
 done offset codes = filter (λ code. nat_le code.offset offset) codes
 
--- by how many bytes a step lowers the stack pointer below the slot of the return address
+-- the number of bytes by which a step lowers the stack pointer below the slot of the return address
 abbrev pub growth_of : UnwindOperation → ℕ
 growth_of (Push register) = 8
 growth_of (Allocate size) = size
@@ -34,13 +34,13 @@ growth_of (SetFrame register offset) = 0
 growth_of (Save register offset) = 0
 growth_of (MachineFrame has_error_code) = if has_error_code then 8 else 0
 
--- how far the slot of the return address lies above the stack pointer
+-- the distance of the slot of the return address above the stack pointer, in bytes
 abbrev pub depth : List UnwindCode → ℕ
 depth [] = 0
 depth (code ∷ before) = depth before + growth_of code.operation
 
--- a step sets the frame register so many bytes above the stack pointer, which lies so far below the
--- slot; or what there was before
+-- the frame after a step at this depth below the slot: a step that sets the frame register sets it
+-- so many bytes above the stack pointer; any other leaves the frame that there was before
 abbrev pub frame_after : UnwindOperation → ℕ → Option Frame → Option Frame
 frame_after (SetFrame register offset) low before =
     Some (record { register = register; offset = offset; low = low })
@@ -54,13 +54,13 @@ abbrev pub frame_set : List UnwindCode → Option Frame
 frame_set [] = None
 frame_set (code ∷ before) = frame_after code.operation (depth before) (frame_set before)
 
--- The frame: its register, how far that lies above the frame's lowest address, and how far this one
--- lies below the slot of the return address. Without a frame register it is that of the stack
--- pointer, register 4.
+-- The frame: its register, the register's distance above the frame's lowest address, and the
+-- distance of this address below the slot of the return address. Without a frame register the frame
+-- is the stack pointer's (register 4).
 abbrev pub frame : List UnwindCode → Frame
 frame steps = unwrap_or (frame_set steps) (record { register = 4; offset = 0; low = depth steps })
 
--- a step saves a register, at this depth below the slot if it pushes it; or what there was before
+-- the slot of a saved register after a step at this depth, which saves it, or leaves it as before
 abbrev pub saved_after : ℕ → UnwindOperation → ℕ → Option Saved → Option Saved
 saved_after register (Push other) depth before =
     if other == register then Some (Below depth) else before
@@ -70,7 +70,7 @@ saved_after register (Allocate size) depth before = before
 saved_after register (SetFrame other offset) depth before = before
 saved_after register (MachineFrame has_error_code) depth before = before
 
--- where the last step that saved a register did so, if one did
+-- the slot in which the last step that saved a register did so, if one did
 abbrev pub saved : ℕ → List UnwindCode → Option Saved
 saved register [] = None
 saved register (code ∷ before) =
@@ -80,7 +80,7 @@ saved register (code ∷ before) =
 abbrev pub has_machine_frame : List UnwindCode → Bool
 has_machine_frame steps = list_any is_machine_frame steps
 
--- what steps have done: the depth, the frame that was set, and whether there is a machine frame
+-- the effect of steps: the depth, the frame that was set, and whether there is a machine frame
 abbrev pub steps_of : List UnwindCode → Steps
 steps_of steps = record {
   depth = depth steps;
@@ -100,7 +100,7 @@ last_offset (code ∷ codes) = max code.offset (last_offset codes)
 
 -- ---- expressions
 
--- so many bytes above the first, less so many: a signed number
+-- the first number less the second, with its sign
 abbrev pub difference : ℕ → ℕ → ℤ
 difference up down = pos up -ℤ pos down
 
@@ -140,7 +140,7 @@ abbrev pub register_rule : List UnwindCode → ℕ → Option Expression
 register_rule steps register =
     option_map (saved_rule (has_machine_frame steps) (frame steps)) (saved register steps)
 
--- the rules where these steps are done
+-- the rules after these steps
 unfoldable pub rules_after : List UnwindCode → Rules
 rules_after steps = record {
   cfa = cfa_rule (has_machine_frame steps) (frame steps);

@@ -1,4 +1,4 @@
--- Where an image's exception directory lies, and the bytes at an address.
+-- The exception directory of an image, and the bytes at an address.
 -- The layout is that of Microsoft's PE Format.
 use Rattle.std.specs.Prelude.{ℕ, ◌+◌, ◌-◌, ◌&&◌, List, [], ◌∷◌, nat_le, ◌==◌, if◌then◌else◌}
 use Rattle.std.specs.Prelude.{Option, None, Some, Result, Ok, ok_or}
@@ -39,7 +39,7 @@ whole_place_in address size s =
     && nat_le (address + size) (s.virtual_address + s.size_of_raw_data)
     then Some (s.pointer_to_raw_data + (address - s.virtual_address)) else None
 
--- the place in the file of so many bytes at an address, by the first section whose data hold them
+-- the place in the file of so many bytes at an address, in the first section whose data hold them
 -- all
 abbrev pub whole_place_of : ℕ → ℕ → List ImageSectionHeader → Option ℕ
 whole_place_of address size [] = None

@@ -18,7 +18,7 @@ Appends old new added = string_bytes new ≡ string_bytes old ++ added
 abbrev pub hexadecimal : ℕ → List ℕ
 hexadecimal n = digits 16 false n
 
--- how the name of a general register of x64 begins, by its number: that of the first eight is whole
+-- the start of the name of a general register of x64, by its number; the first eight are whole
 abbrev pub first_name : ℕ → List ℕ
 first_name n =
     if n == 0 then codes "$rax" else if n == 1 then codes "$rcx"
@@ -36,8 +36,8 @@ register_name Cfa = codes ".cfa"
 register_name ReturnAddress = codes ".ra"
 register_name (General n) = general_name n
 
--- a number that is added, or its amount that is subtracted, after what it is added to; nothing
--- of 0
+-- a number that is added, or its amount that is subtracted, after what it is added to; nothing for
+-- 0
 abbrev pub added_text : ℤ → List ℕ
 added_text (pos n) = if n == 0 then [] else codes " " ++ decimal n ++ codes " +"
 added_text (negsuc n) = codes " " ++ decimal (suc n) ++ codes " -"
@@ -56,7 +56,7 @@ rule_text r =
 abbrev pub rules_text : List Rule → List ℕ
 rules_text rules = flat_map rule_text rules ++ 10 ∷ []
 
--- the rules of these registers that aren't what they were, so
+-- the text of the rules of these registers that aren't what they were
 abbrev pub changed_text : (Register → Option Expression) → (Register → Option Expression)
     → List Register → List ℕ
 changed_text old new names = rules_text (changes_of old new names)

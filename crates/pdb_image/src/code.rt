@@ -1,6 +1,6 @@
 //! Unwind codes.
 
-/// What a step of a prolog did.
+/// The operation of an unwind code: what a step of a prolog did.
 #[derive(Clone, Copy, Debug, PartialEq, Eq)]
 pub enum UnwindOperation {
     /// It pushed the register of this number.
@@ -22,6 +22,6 @@ pub struct UnwindCode {
     /// The offset of the step's end from the function's begin, in bytes; 0 for the codes of a
     /// parent.
     pub offset: u8,
-    /// What the step did.
+    /// The step's operation.
     pub operation: UnwindOperation,
 }

@@ -58,7 +58,7 @@ fn place_in(header: &[u8; 40], address: u32) -> Option<usize>
     Some(word_at(header, 20) as usize + (address - start) as usize)
 }
 
-/// The place in the file of an address, by the first of these sections whose data hold it.
+/// The place in the file of an address, in the first of these sections whose data hold it.
 #[tactic(auto, using(crate::proofs::SectionSteps::place_more, crate::proofs::SectionSteps::place_found, crate::proofs::SectionSteps::place_missing))]
 pub(crate) fn file_place(sections: &[[u8; 40]], address: u32) -> Option<usize>
     ensures { result ≡ place_of address (map header_in sections.now) }
@@ -129,7 +129,7 @@ fn parse_record<'a>(file: &'a [u8], entry: &[u8; 28]) -> Result<CodeView<'a>, Im
     parse_rsds(part(file, pointer, size).ok_or(ImageError::RecordPastEnd)?)
 }
 
-/// What an RSDS record says.
+/// The CodeView record in the bytes of an RSDS record.
 #[tactic(auto, unfolding(crate::specs::CodeView::rsds_of))]
 fn parse_rsds(bytes: &[u8]) -> Result<CodeView<'_>, ImageError>
     ensures { result ≡ rsds_of bytes.now }

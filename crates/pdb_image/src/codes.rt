@@ -13,7 +13,7 @@ use crate::code::{UnwindCode, UnwindOperation};
 use crate::fault::UnwindFault;
 use pdb_container::{half_at, word_at};
 
-/// How many slots a code takes, by its operation's number and its information.
+/// The number of slots that a code takes, from its operation's number and its information.
 fn slots_of(operation: u8, info: u8) -> Option<usize>
     ensures slots { result ≡ slots_in operation info }
     ensures some { IfSome result (λ n. (1 ≤ n) × (n ≤ 3)) }
@@ -29,8 +29,8 @@ fn slots_of(operation: u8, info: u8) -> Option<usize>
     }
 }
 
-/// What a code of one slot did, by the byte of the frame register, its operation's number, and its
-/// information.
+/// The operation of a code of one slot, from the byte of the frame register, the operation's
+/// number, and the information.
 fn one_slot(frame: u8, operation: u8, info: u8) -> UnwindOperation
     ensures { result ≡ one_slot_in frame operation info }
 {
@@ -42,7 +42,7 @@ fn one_slot(frame: u8, operation: u8, info: u8) -> UnwindOperation
     }
 }
 
-/// What a code of two slots did, if it is a step.
+/// The operation of a code of two slots, if it is a step.
 fn two_slots(operation: u8, info: u8, operand: u16) -> Option<UnwindOperation>
     ensures { result ≡ two_slots_in operation info operand }
 {
@@ -53,7 +53,7 @@ fn two_slots(operation: u8, info: u8, operand: u16) -> Option<UnwindOperation>
     }
 }
 
-/// What a code of three slots did, if it is a step.
+/// The operation of a code of three slots, if it is a step.
 fn three_slots(operation: u8, info: u8, operand: u32) -> Option<UnwindOperation>
     ensures { result ≡ three_slots_in operation info operand }
 {
@@ -64,7 +64,7 @@ fn three_slots(operation: u8, info: u8, operand: u32) -> Option<UnwindOperation>
     }
 }
 
-/// What the code of so many slots did that bytes begin with, if it is a step.
+/// The operation of the code of so many slots that bytes begin with, if it is a step.
 fn operation_of(frame: u8, slots: usize, bytes: &[u8]) -> Option<UnwindOperation>
     requires few { (1 ≤ slots) × (slots ≤ 3) }
     requires bytes { 2 * slots ≤ length bytes.now }
@@ -103,7 +103,7 @@ fn push_step(
     }
 }
 
-/// Appends the code that bytes begin with, if it is a step, and returns how many bytes it takes.
+/// Appends the code that bytes begin with, if it is a step, and returns the number of its bytes.
 #[tactic(auto, using(crate::proofs::Slots::code_pushed, crate::proofs::Slots::first_short, crate::proofs::Slots::first_unknown))]
 fn push_code(
     of_parent: bool,

@@ -5,16 +5,17 @@ ghost use Rattle.pdb_image.specs.Entries.{entry_in};
 
 use pdb_container::word_at;
 
-/// An entry of the exception directory (`RUNTIME_FUNCTION`): a function, or a part of one, and
-/// where it says how to unwind it. Addresses are in bytes from the image's start.
+/// An entry of the exception directory (`RUNTIME_FUNCTION`): the range of a function, or of a part
+/// of one, and the address of its unwind information. Addresses are in bytes from the image's
+/// start.
 #[derive(Clone, Copy, Debug, PartialEq, Eq)]
 pub struct FunctionEntry {
     /// The address at which the function begins.
     pub begin: u32,
-    /// The address after its last byte.
+    /// The address after the function's last byte.
     pub end: u32,
-    /// The address of its unwind information; if that is odd, it is less 1 the address of another
-    /// entry, whose unwind information counts.
+    /// The address of the function's unwind information. An odd one, less 1, is the address of
+    /// another entry, whose unwind information counts.
     pub info: u32,
 }
 

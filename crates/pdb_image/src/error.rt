@@ -1,8 +1,8 @@
-//! Why a file is no image, or doesn't say which PDB it has.
+//! Errors of images: a file is no image, or doesn't say which PDB it has.
 
 use thiserror::Error;
 
-/// Why a file is no PE image, or why the record of its PDB can't be read.
+/// The reason that a file is no PE image, or that the record of its PDB can't be read.
 #[derive(Clone, Copy, Debug, PartialEq, Eq, Error)]
 pub enum ImageError {
     /// The file doesn't begin with `MZ`.

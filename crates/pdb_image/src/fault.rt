@@ -1,11 +1,11 @@
-//! Why the unwind codes of a function can't be read.
+//! Faults of unwind codes.
 
 ghost use Rattle.std.specs.Prelude.{◌≡◌};
 
 use std::alloc::{AllocError, AllocFailed};
 use thiserror::Error;
 
-/// Why the unwind codes of a function can't be read.
+/// The reason that the unwind codes of a function can't be read.
 #[derive(Clone, Copy, Debug, PartialEq, Eq, Error)]
 pub enum UnwindFault {
     /// The function doesn't begin below its end.

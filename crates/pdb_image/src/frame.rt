@@ -11,8 +11,8 @@ use crate::code::{UnwindCode, UnwindOperation};
 /// The number of the stack pointer among the general registers.
 const STACK_POINTER: u8 = 4;
 
-/// A frame: the register that it is found by, how far that lies above the frame's lowest address,
-/// and how far this one lies below the slot of the return address, in bytes.
+/// A frame: the register that finds it, the register's distance above the frame's lowest address,
+/// and the distance of this address below the slot of the return address, both in bytes.
 #[derive(Clone, Copy)]
 pub(crate) struct Frame {
     pub(crate) register: u8,
@@ -20,16 +20,16 @@ pub(crate) struct Frame {
     pub(crate) low: u64,
 }
 
-/// Where a register was saved: so far below the slot of the return address, or so far above the
-/// frame's lowest address, in bytes.
+/// The slot in which a register was saved: so far below the slot of the return address, or so far
+/// above the frame's lowest address, in bytes.
 #[derive(Clone, Copy)]
 pub(crate) enum Saved {
     Below(u64),
     Above(u32),
 }
 
-/// What steps have done: how far the slot of the return address lies above the stack pointer, the
-/// frame that was set, and whether there is a machine frame.
+/// The effect of steps: the distance of the slot of the return address above the stack pointer, in
+/// bytes, the frame that was set, and whether there is a machine frame.
 #[derive(Clone, Copy)]
 pub(crate) struct Steps {
     pub(crate) depth: u64,
@@ -38,7 +38,7 @@ pub(crate) struct Steps {
 }
 
 impl Steps {
-    /// The frame: that of the stack pointer, if none was set.
+    /// The frame; the stack pointer's, if none was set.
     pub(crate) fn frame(self) -> Frame
         ensures frame { (steps : List Code) → self ≡ steps_of steps → result ≡ frame_of steps }
         ensures low { IfSome self.frame (λ f. f.low ≤ self.depth) → result.low ≤ self.depth }
@@ -50,7 +50,7 @@ impl Steps {
         })
     }
 
-    /// What was done once another step is done, too.
+    /// The effect of these steps and of one more.
     fn after(self, code: UnwindCode) -> Steps
         requires { self.depth < 2 ^ 62 }
         ensures steps { (before : List Code) → self ≡ steps_of before
@@ -76,7 +76,8 @@ impl Steps {
     }
 }
 
-/// By how many bytes a step lowers the stack pointer below the slot of the return address.
+/// The number of bytes by which a step lowers the stack pointer below the slot of the return
+/// address.
 fn growth_of(operation: UnwindOperation) -> u64
     ensures growth { result ≡ growth_by operation }
     ensures small { result < 2 ^ 32 }
@@ -89,7 +90,7 @@ fn growth_of(operation: UnwindOperation) -> u64
     }
 }
 
-/// What was done once a code has counted, too, if its step is done at an offset.
+/// The effect of steps, and of a code, too, if its step is done at an offset.
 fn counted(steps: Steps, code: UnwindCode, offset: u32) -> Steps
     requires { steps.depth < 2 ^ 62 }
     ensures steps { (before : List Code) → steps ≡ steps_of (done offset before)
@@ -105,7 +106,7 @@ fn counted(steps: Steps, code: UnwindCode, offset: u32) -> Steps
     }
 }
 
-/// What the steps have done that are done at an offset.
+/// The effect of the steps that are done at an offset.
 #[tactic(auto, using(crate::proofs::Steps::steps_more, crate::proofs::Steps::steps_none))]
 pub(crate) fn steps_at(codes: &[UnwindCode], offset: u32) -> Steps
     requires { length codes.now < 2 ^ 16 }
@@ -126,7 +127,7 @@ pub(crate) fn steps_at(codes: &[UnwindCode], offset: u32) -> Steps
     steps
 }
 
-/// Where a step saved a register, if it did, at this depth below the slot.
+/// The slot in which a step saved a register, if it did, at this depth below the return address's.
 fn saved_by(operation: UnwindOperation, register: u8, depth: u64) -> Option<Saved>
     ensures saved { result ≡ saved_after register operation depth None }
     ensures short { depth < 2 ^ 48 → IfSome result IsShort }
@@ -138,7 +139,8 @@ fn saved_by(operation: UnwindOperation, register: u8, depth: u64) -> Option<Save
     }
 }
 
-/// Where a register was saved by the steps that are done at an offset, which have made this depth.
+/// The slot in which the steps that are done at an offset, and have made this depth, saved a
+/// register.
 #[tactic(auto, using(crate::proofs::Steps::saved_here, crate::proofs::Steps::saved_before, crate::proofs::Steps::saved_passed, crate::proofs::Steps::saved_nowhere, crate::proofs::Steps::depth_here, crate::proofs::Steps::depth_passed))]
 pub(crate) fn saved_at(codes: &[UnwindCode], offset: u32, depth: u64, register: u8) -> Option<Saved>
     requires depth { depth ≡ depth_of (done offset codes.now) }

@@ -102,7 +102,7 @@ impl<'a> Image<'a> {
         self.time_stamp
     }
 
-    /// The size of the image: how many bytes of memory it takes once it is loaded.
+    /// The size of the image in memory, once it is loaded, in bytes.
     pub fn size_of_image(&self) -> u32
         ensures { result ≡ self.now.size_of_image }
     {
@@ -116,7 +116,7 @@ impl<'a> Image<'a> {
         self.image_base
     }
 
-    /// How many sections there are.
+    /// The number of sections.
     pub fn section_count(&self) -> usize
         ensures { result ≡ length self.now.sections }
     {
@@ -136,10 +136,10 @@ impl<'a> Image<'a> {
     /// without a CodeView entry in it.
     ///
     /// The debug directory lies in the first section whose data in the file hold its address. It is
-    /// made of entries of 28 bytes; fewer at its end are none. A record lies at its entry's pointer
-    /// to raw data, which PE Format calls the file pointer to the debug data. `llvm-symbolizer` 19
-    /// takes the first CodeView entry whatever its record begins with, and finds the record by its
-    /// address.
+    /// made of entries of 28 bytes; fewer bytes at its end are no entry. A record lies at its
+    /// entry's pointer to raw data, which PE Format calls the file pointer to the debug data.
+    /// `llvm-symbolizer` 19 takes the first CodeView entry whatever its record begins with, and
+    /// finds the record by its address.
     ///
     /// # Errors
     /// The first one in this order of `DebugDirectoryNotFound`, `DebugDirectoryPastEnd`,
@@ -154,8 +154,8 @@ impl<'a> Image<'a> {
         }
     }
 
-    /// The exception directory (`.pdata`), which lists what functions need to be unwound. `None`
-    /// of an image that isn't x64 and PE32+, or has no such directory.
+    /// The exception directory (`.pdata`), which lists functions with their unwind information.
+    /// `None` for an image that isn't x64 and PE32+, or has no such directory.
     ///
     /// # Errors
     /// `OptionalHeaderTooShort` where the optional header counts the directory and has no room for
@@ -192,7 +192,7 @@ impl<'a> Image<'a> {
     }
 }
 
-/// What the 40 bytes of a section header say.
+/// The section header in 40 bytes.
 #[tactic(auto, using(crate::proofs::SectionSteps::header_read))]
 fn section_header(bytes: &[u8; 40]) -> Option<ImageSectionHeader>
     ensures { result ≡ Some (header_in bytes.now) }

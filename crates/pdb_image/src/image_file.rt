@@ -5,17 +5,18 @@ use crate::image::Image;
 use std::alloc::Global;
 use std::io::{self, Read};
 
-/// How many bytes of an image are read first.
+/// The number of bytes of an image that are read first.
 const FRONT: u64 = 4096;
 
-/// All that headers and debug directory can point to lies before this place: a place and a size
-/// have 32 bits each.
+/// The place before which all lies that headers and debug directory can point to: a place and a
+/// size have 32 bits each.
 const LIMIT: u64 = 1 << 33;
 
-/// How many times an image is read at most. Each but one doubles what was read, up to [`LIMIT`].
+/// The greatest number of times that an image is read. Each but one doubles what was read, up to
+/// [`LIMIT`].
 const STEPS: u32 = 64;
 
-/// How far the sections' data reach in the file.
+/// The end of the sections' data in the file.
 fn sections_end(image: &Image<'_>) -> u64 {
     let mut end = 0;
     for number in 0..image.section_count() {
@@ -38,8 +39,8 @@ fn lies_further(image: &Image<'_>) -> bool {
     )
 }
 
-/// The end up to which an image is read next, by what was read of it; `None` where all that is
-/// asked of it is there, and where the file is no image.
+/// The end up to which an image is read next, judged from what was read of it; `None` where all
+/// that is asked of the image is there, and where the file is no image.
 fn next_end(bytes: &[u8]) -> Option<u64> {
     let held = bytes.len() as u64;
     let doubled = held.saturating_mul(2);
@@ -65,7 +66,7 @@ fn next_end(bytes: &[u8]) -> Option<u64> {
 /// no more is read than up to twice that place, or 4096 bytes; of any file, no more than 8 GiB.
 ///
 /// # Errors
-/// As the reader's; a read that a signal interrupts is tried again.
+/// The reader's errors; a read that a signal interrupts is tried again.
 pub fn read_image<R: Read>(alloc: Global, file: &mut R) -> io::Result<Vec<u8>> {
     let mut bytes = Vec::new(alloc);
     let mut end = FRONT;

@@ -1,16 +1,15 @@
-//! What a PE image says of itself: its machine, where it wants to be loaded, its sections, the
-//! identity and path of its program database (PDB), and how its functions are unwound, if it is of
-//! x64: the entries of its exception directory (`.pdata`), their unwind codes, the rules at an
-//! address by which a frame is left, and the records `STACK CFI` of a symbol file that say these
-//! rules. The layouts are those of Microsoft's pages PE Format and x64 Exception Handling; the
-//! CodeView record is LLVM's `PDB70DebugInfo` (CVDebugRecord.h); the records are those that
-//! Breakpad and rust-minidump read.
+//! PE images: the machine, the image base, sections, the identity and path of the program database
+//! (PDB), and, of an image of x64, how its functions are unwound: the entries of its exception
+//! directory (`.pdata`), their unwind codes, the rules at an address by which a frame is left, and
+//! the records `STACK CFI` of a symbol file that say these rules. The layouts are those of
+//! Microsoft's pages PE Format and x64 Exception Handling; the CodeView record is LLVM's
+//! `PDB70DebugInfo` (CVDebugRecord.h); the records are those that Breakpad and rust-minidump read.
 //!
-//! Fields of an image may be added, and how codes are gone over may change. Which record of several
-//! is taken, the order of faults (`specs/CodeView`, `specs/Image`), rules (`specs/Rules`) and the
-//! form of records may not, since other programs read these.
+//! Fields of an image may be added, and the way in which codes are gone over may change. The choice
+//! among several records, the order of faults (`specs/CodeView`, `specs/Image`), rules
+//! (`specs/Rules`) and the form of records may not, since other programs read these.
 //!
-//! Whether a PDB belongs to an image is asked by the image's bytes and the PDB's identity:
+//! An image's bytes and a PDB's identity tell whether the PDB belongs to the image:
 //!
 //! ```rust
 //! fn names_pdb(image: &[u8], pdb: &PdbIdentity) -> Result<bool, ImageError> {

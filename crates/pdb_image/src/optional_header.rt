@@ -29,18 +29,18 @@ pub struct DataDirectory {
     pub size: u32,
 }
 
-/// What is read of an optional header.
+/// The fields that are read of an optional header.
 #[derive(Clone, Copy)]
 pub(crate) struct OptionalHeader {
     /// The address at which the image wants to be loaded.
     pub(crate) image_base: u64,
-    /// How many bytes of memory the image takes.
+    /// The size of the image in memory, in bytes.
     pub(crate) size_of_image: u32,
     /// The debug directory, if there is one.
     pub(crate) debug: Option<DataDirectory>,
 }
 
-/// What the bytes of an optional header say.
+/// The fields in the bytes of an optional header.
 #[tactic(auto, unfolding(crate::specs::Image::optional_of))]
 pub(crate) fn parse_optional(bytes: &[u8]) -> Result<OptionalHeader, ImageError>
     ensures { result ≡ optional_of bytes.now }
@@ -55,7 +55,7 @@ pub(crate) fn parse_optional(bytes: &[u8]) -> Result<OptionalHeader, ImageError>
     }
 }
 
-/// What a PE32 optional header says.
+/// The fields of a PE32 optional header.
 #[tactic(auto, unfolding(crate::specs::Image::pe32_of))]
 fn parse_pe32(bytes: &[u8]) -> Result<OptionalHeader, ImageError>
     ensures { result ≡ pe32_of bytes.now }
@@ -70,7 +70,7 @@ fn parse_pe32(bytes: &[u8]) -> Result<OptionalHeader, ImageError>
     })
 }
 
-/// What a PE32+ optional header says.
+/// The fields of a PE32+ optional header.
 #[tactic(auto, unfolding(crate::specs::Image::pe32_plus_of))]
 fn parse_pe32_plus(bytes: &[u8]) -> Result<OptionalHeader, ImageError>
     ensures { result ≡ pe32_plus_of bytes.now }
@@ -86,7 +86,7 @@ fn parse_pe32_plus(bytes: &[u8]) -> Result<OptionalHeader, ImageError>
     })
 }
 
-/// The debug directory, by the data directories, which lie after their count. There is none where
+/// The debug directory, from the data directories, which lie after their count. There is none where
 /// they are fewer than seven, or its address is 0.
 #[tactic(auto, unfolding(crate::specs::Image::debug_entry_of))]
 fn parse_debug_entry(bytes: &[u8], count_place: usize) -> Result<Option<DataDirectory>, ImageError>
@@ -121,7 +121,7 @@ pub(crate) fn parse_exceptions(bytes: &[u8]) -> Result<Option<DataDirectory>, Im
     parse_exception_entry(bytes)
 }
 
-/// The exception directory of a PE32+ optional header, by the data directories, which lie after
+/// The exception directory of a PE32+ optional header, from the data directories, which lie after
 /// their count. There is none where they are fewer than four.
 #[tactic(auto, unfolding(crate::specs::Tables::exception_entry_of))]
 fn parse_exception_entry(bytes: &[u8]) -> Result<Option<DataDirectory>, ImageError>

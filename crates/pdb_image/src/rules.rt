@@ -22,26 +22,26 @@ pub enum Register {
     General(u8),
 }
 
-/// How the caller's value of a register is found: the sum of a register, as it is in the frame that
-/// is left, and a number of bytes, or the eight bytes that lie there.
+/// An expression that finds the caller's value of a register: the sum of a register, as it is in
+/// the frame that is left, and a number of bytes, or the eight bytes that lie there.
 #[derive(Clone, Copy, Debug, PartialEq, Eq)]
 pub struct Expression {
     /// The register.
     pub base: Register,
-    /// What is added to it, in bytes.
+    /// The number of bytes that is added to the register.
     pub offset: i64,
-    /// Whether the value is what lies at the sum, and not the sum itself.
+    /// Whether the value is read at the sum, and isn't the sum itself.
     pub is_read: bool,
 }
 
 /// The rules by which a frame is left.
 #[derive(Clone, Copy, Debug, PartialEq, Eq)]
 pub struct Rules {
-    /// How the caller's stack pointer is found.
+    /// The rule of the caller's stack pointer.
     pub cfa: Expression,
-    /// How the return address is found.
+    /// The rule of the return address.
     pub return_address: Expression,
-    /// How the general registers that were saved are found, by their numbers.
+    /// The rules of the general registers that were saved, by their numbers.
     pub saved: [Option<Expression>; 16],
 }
 
@@ -67,7 +67,7 @@ pub(crate) const REGISTERS: [Register; 17] = [
 ];
 
 impl Rules {
-    /// The rules where the steps are done that are done at an offset from the function's begin.
+    /// The rules after the steps that are done at an offset from the function's begin.
     pub(crate) fn at(codes: &[UnwindCode], offset: u32) -> Rules
         requires { length codes.now < 2 ^ 16 }
         ensures { result ≡ rules_at codes.now offset }
@@ -95,7 +95,7 @@ impl Rules {
     }
 }
 
-/// So many bytes less so many.
+/// The first number of bytes less the second.
 fn difference(up: u64, down: u64) -> i64
     requires up { up < 2 ^ 62 }
     requires down { down < 2 ^ 62 }
@@ -126,7 +126,7 @@ fn read_at(base: Register, offset: i64) -> Expression
     }
 }
 
-/// How the caller's stack pointer is found.
+/// The rule of the caller's stack pointer.
 fn cfa_rule(is_machine: bool, frame: Frame) -> Expression
     requires { frame.low < 2 ^ 48 }
     ensures { result ≡ cfa_rule_of is_machine frame }
@@ -142,7 +142,7 @@ fn cfa_rule(is_machine: bool, frame: Frame) -> Expression
     }
 }
 
-/// How the return address is found.
+/// The rule of the return address.
 fn return_rule(is_machine: bool, frame: Frame) -> Expression
     requires { frame.low < 2 ^ 48 }
     ensures { result ≡ return_rule_of is_machine frame }
@@ -155,7 +155,7 @@ fn return_rule(is_machine: bool, frame: Frame) -> Expression
     }
 }
 
-/// How a register that was saved there is found.
+/// The rule of a register that was saved in this slot.
 fn saved_rule(is_machine: bool, frame: Frame, saved: Saved) -> Expression
     requires low { frame.low < 2 ^ 48 }
     requires saved { IsShort saved }
@@ -178,7 +178,7 @@ fn saved_rule(is_machine: bool, frame: Frame, saved: Saved) -> Expression
     }
 }
 
-/// How a general register is found, if it was saved by the steps that are done at an offset.
+/// The rule of a general register, if it was saved by the steps that are done at an offset.
 fn register_rule(
     codes: &[UnwindCode],
     offset: u32,
@@ -196,7 +196,7 @@ fn register_rule(
     }
 }
 
-/// How the general registers that were saved are found, by their numbers.
+/// The rules of the general registers that were saved, by their numbers.
 fn saved_rules(codes: &[UnwindCode], offset: u32, steps: Steps) -> [Option<Expression>; 16]
     requires steps { steps ≡ steps_of (done offset codes.now) }
     requires depth { steps.depth < 2 ^ 48 }

@@ -1,4 +1,4 @@
-//! Where bytes at an address lie in the file.
+//! Places in the file of bytes at an address.
 
 ghost use Rattle.std.specs.Prelude.{◌≡◌, map};
 ghost use Rattle.pdb_addresses.specs.Sections.{header_in};
@@ -23,7 +23,7 @@ fn whole_place_in(header: &[u8; 40], address: u64, size: usize) -> Option<usize>
     Some(word_at(header, 20) as usize + offset as usize)
 }
 
-/// The place in the file of `size` bytes at an address, by the first of these sections whose data
+/// The place in the file of `size` bytes at an address, in the first of these sections whose data
 /// hold them all.
 #[tactic(auto, using(crate::proofs::SectionSteps::whole_more, crate::proofs::SectionSteps::whole_found, crate::proofs::SectionSteps::whole_missing))]
 pub(crate) fn whole_place(sections: &[[u8; 40]], address: u64, size: usize) -> Option<usize>

@@ -16,7 +16,7 @@ use crate::image::Image;
 use pdb_container::word_at;
 use std::alloc::Global;
 
-/// How many tables a function's codes may stand in: its own, and those of 32 parents.
+/// The number of tables in which a function's codes may stand: its own, and those of 32 parents.
 const TABLES: u8 = 33;
 
 /// Whether an address of unwind information points to another entry.
@@ -37,7 +37,7 @@ fn info_of_entry(image: &Image<'_>, address: u64) -> Result<u32, UnwindFault>
     }
 }
 
-/// The address of the unwind information of the parent, if there is one, by the first four bytes
+/// The address of the unwind information of the parent, if there is one, from the first four bytes
 /// of the unwind information at an address.
 #[tactic(auto, unfolding(crate::specs::Codes::parent_of))]
 fn parent_of(image: &Image<'_>, header: &[u8], info: u32) -> Result<Option<u32>, UnwindFault>
@@ -80,7 +80,7 @@ fn slots_at<'a>(image: &Image<'a>, header: &[u8], info: u32) -> Result<&'a [u8],
     }
 }
 
-/// Appends the codes of the table at an address, and returns where its parent's lies.
+/// Appends the codes of the table at an address, and returns the address of its parent's.
 #[tactic(auto, unfolding(crate::specs::Codes::table_of), using(crate::proofs::Tables::table_no_codes))]
 fn push_table_of(
     image: &Image<'_>,
@@ -98,7 +98,7 @@ fn push_table_of(
     parent_of(image, header, info)
 }
 
-/// Appends the codes of the table at an address, and returns where its parent's lies. An odd
+/// Appends the codes of the table at an address, and returns the address of its parent's. An odd
 /// address points to another entry, and has no codes.
 #[tactic(auto, unfolding(crate::specs::Codes::table_at), using(crate::proofs::Tables::pointer_given, crate::proofs::Tables::pointer_failed))]
 fn push_table(
@@ -118,8 +118,8 @@ fn push_table(
     }
 }
 
-/// Whether the table is a parent's to which the one at an address leads: a pointer leads to the
-/// table that it stands for.
+/// Whether the table at an address leads to a parent's table: a pointer leads to the table that it
+/// stands for.
 fn leads_to_parent(of_parent: bool, info: u32) -> bool
     ensures { result ≡ (of_parent || not (is_pointer_at info)) }
 {

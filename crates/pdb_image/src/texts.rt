@@ -51,7 +51,7 @@ fn append_register(text: &mut String, register: Register) -> Result<(), AllocErr
     }
 }
 
-/// Appends a number that is added, or its amount that is subtracted; nothing of 0.
+/// Appends a number that is added, or its amount that is subtracted; nothing for 0.
 fn append_added(text: &mut String, offset: i64) -> Result<(), AllocError>
     ensures { OnOk result (Appends text.old text.new (added_text offset)) }
 {

@@ -1,9 +1,9 @@
--- What a context caches of modules that were asked for.
+-- The cache of modules that were asked for.
 use Rattle.std.specs.Prelude.{◌≡◌, ℕ, ◌≤◌, Bool, true, false, List, length, slice_get, Option}
 use Rattle.std.specs.Prelude.{None, Some}
 use Rattle.pdb_known_modules.specs.KnownModules.{ModuleData}
 
--- For each module a slot, in which its data are cached once they were read. What is cached is the
+-- A slot for each module, in which its data are cached once they were read. The cached data are the
 -- module's, and a module past all slots has no data.
 pub record AreKept (own : ℕ → Option ModuleData) (slots : List (Option (Option ModuleData)))
     : Type 0 where
@@ -17,7 +17,7 @@ is_empty (Some None) = true
 is_empty (Some (Some known)) = false
 is_empty None = false
 
--- what is cached in a slot, if there is something
+-- the data that are cached in a slot, if there are any
 abbrev pub known_of : Option (Option (Option ModuleData)) → Option ModuleData
 known_of (Some (Some known)) = known
 known_of (Some None) = None

@@ -1,4 +1,4 @@
--- What a module's own stream says of a place in it.
+-- The data of a module's own stream, and the line and inlined calls at a place in it.
 use Rattle.std.specs.Prelude.{◌≡◌, ℕ, List, [], slice_get, Option, None, Some, option_and_then}
 use Rattle.std.specs.Prelude.{Result, Ok, Err}
 use Rattle.pdb_container.specs.Fault as container
@@ -23,13 +23,14 @@ use Rattle.pdb_resolving.specs.Fault.{Fault, PdbError, ProcedureInlineRangesUnsu
 
 -- ---- a module's data
 
--- what a provider gives of the module with that index, by its entry; nothing without one
+-- the stream that a provider gives of the module with that index, by its entry; none without one
 abbrev pub given_if_listed :
     Provided → ℕ → Option Module → Result (Option ModuleStream) container.Fault
 given_if_listed provided number None = Ok None
 given_if_listed provided number (Some entry) = provided number entry
 
--- what a provider gives of the module with that index, counted from 0; past the list there is none
+-- the stream that a provider gives of the module with that index, counted from 0; none past the
+-- list
 abbrev pub own_of : Provided → List Module → ℕ → Result (Option ModuleStream) container.Fault
 own_of provided entries number = given_if_listed provided number (slice_get entries number)
 
@@ -50,8 +51,8 @@ abbrev pub data_if_there : Option ModuleStream → Option ModuleData
 data_if_there None = None
 data_if_there (Some stream) = if_read (data_of_stream stream)
 
--- The data of a module: none where it has no stream, and where that or its symbols can't be read to
--- the end.
+-- The data of a module: none where it has no stream, and where its stream or its symbols can't be
+-- read to the end.
 abbrev pub module_data : Result (Option ModuleStream) container.Fault → Option ModuleData
 module_data (Ok found) = data_if_there found
 module_data (Err e) = None
@@ -72,7 +73,7 @@ IsNumberOver procedures place number =
 
 -- ---- lines and inlined calls
 
--- the line program of a module, and what gives its inlined functions by their ids
+-- the line program of a module, and its inlined functions by their ids
 pub record ExtendedModule : Type 0 where
   pub program : Program
   pub inlinees : ℕ → Option InlinedFunction

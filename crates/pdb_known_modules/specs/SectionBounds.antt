@@ -1,4 +1,4 @@
--- Where procedures begin and end in one section.
+-- The starts and ends of procedures in one section.
 use Rattle.std.specs.Prelude.{ℕ, ◌+◌, ◌==◌, List}
 use Rattle.pdb_addresses.specs.declared.internal_section_offset.PdbInternalSectionOffset.{
   PdbInternalSectionOffset,
@@ -6,8 +6,8 @@ use Rattle.pdb_addresses.specs.declared.internal_section_offset.PdbInternalSecti
 use Rattle.pdb_contributions.specs.SectionBounds.{if_there}
 use Rattle.pdb_module_data.specs.Procedures.{Procedure}
 
--- where a procedure begins and ends, if it lies in the section of a place; its end may lie past 32
--- bits
+-- the start and the end of a procedure, if it lies in the section of a place; the end may lie past
+-- 32 bits
 abbrev pub procedure_bounds : PdbInternalSectionOffset → Procedure → List ℕ
 procedure_bounds p q = if_there ((q.offset).section == p.section) (q.offset).offset
     ((q.offset).offset + q.len)

@@ -1,4 +1,4 @@
-//! Where procedures begin and end, of all sections in one row.
+//! The starts and ends of procedures, of all sections in one row.
 
 ghost use Rattle.std.specs.Prelude.{◌≡◌, ◌++◌, OnOk, IfOk};
 ghost use Rattle.std.specs.List.{flat_map};
@@ -30,7 +30,7 @@ fn procedure_numbers_of(alloc: Global, procedures: &[Procedure<'_>]) -> Result<V
     Ok(numbers)
 }
 
-/// Where procedures begin and end.
+/// The starts and ends of procedures.
 ///
 /// # Errors
 /// `AllocError` when memory runs out.

@@ -1,4 +1,4 @@
-//! What is cached of modules that were asked for; past what a meter allows it is forgotten.
+//! The cache of modules that were asked for; past the meter's limit it is forgotten.
 
 ghost use Rattle.std.specs.Prelude.{◌≡◌, ◌<◌, ℕ, IfOk, length, Option, option_copied, replicate};
 ghost use Rattle.std.specs.Prelude.{None, slice_get, slice_set};
@@ -19,12 +19,12 @@ use std::marker::Model;
 /// module without data.
 type KeptModule<'a, I> = Option<Option<BasicModuleInfo<'a, I>>>;
 
-/// What is cached of the modules that were asked for, each at its index, and how many bytes that
-/// takes.
+/// The cached data of the modules that were asked for, each at its index, and the number of bytes
+/// that they take.
 pub struct CachedModules<'a, I: ModuleTables> {
     slots: Vec<KeptModule<'a, I>>,
     meter: Meter,
-    /// The index of the module that was asked for last; that of none before the first question.
+    /// The index of the module that was asked for last; no module's before the first question.
     last: usize,
     /// For each module, whether another one was asked for after it.
     left: Vec<bool>,
@@ -74,7 +74,7 @@ pub fn nothing_cached<'a, I: ModuleTables>(
     })
 }
 
-/// Forgets what is cached: all slots are as empty as before the first question.
+/// Forgets all cached data: all slots are as empty as before the first question.
 fn forget_all_modules<'a, I: ModuleTables>(cached: &mut CachedModules<'a, I>)
     ensures { cached.new ≡ replicate (length cached.old) None }
 {
@@ -82,7 +82,7 @@ fn forget_all_modules<'a, I: ModuleTables>(cached: &mut CachedModules<'a, I>)
     cached.meter.clear();
 }
 
-/// Forgets what is cached if it is more than the meter allows.
+/// Forgets all cached data if they are more than the meter allows.
 #[tactic(auto, using(crate::proofs::KeptSteps::none_kept))]
 fn forget_modules_if_full<'a, I: ModuleTables>(cached: &mut CachedModules<'a, I>)
     ensures { (own : ℕ → Option ModuleData) → AreKept own cached.old → AreKept own cached.new }
@@ -92,7 +92,8 @@ fn forget_modules_if_full<'a, I: ModuleTables>(cached: &mut CachedModules<'a, I>
     }
 }
 
-/// About how many bytes are cached of a module, and how many of them of its procedures.
+/// The approximate number of bytes that are cached of a module, and the number of them that are of
+/// its procedures.
 fn sizes_at<'a, I: ModuleTables>(place: &KeptModule<'a, I>) -> (u64, u64) {
     match place {
         Some(Some(known)) => (known.cached_size(), known.procedures_size()),
@@ -110,8 +111,8 @@ fn forget_module<'a, I: ModuleTables>(cached: &mut CachedModules<'a, I>, number:
     cached.meter.give_back(bytes, procedures);
 }
 
-/// Forgets what is cached of the procedures of a module, if its data are cached there. Returns about
-/// how many bytes that took.
+/// Forgets the cached data of the procedures of a module, if the module's data are cached there.
+/// Returns the approximate number of their bytes.
 fn forget_procedures_at<'a, I: ModuleTables>(place: &mut KeptModule<'a, I>) -> u64
     ensures { place.new ≡ place.old }
 {
@@ -121,8 +122,8 @@ fn forget_procedures_at<'a, I: ModuleTables>(place: &mut KeptModule<'a, I>) -> u
     }
 }
 
-/// Forgets the line rows that are cached of a module, if its data are cached there. Returns about
-/// how many bytes they took.
+/// Forgets the line rows that are cached of a module, if its data are cached there. Returns the
+/// approximate number of their bytes.
 fn forget_rows_at<'a, I: ModuleTables>(place: &mut KeptModule<'a, I>) -> u64
     ensures { place.new ≡ place.old }
 {
@@ -141,7 +142,7 @@ fn forget_module_rows<'a, I: ModuleTables>(cached: &mut CachedModules<'a, I>, nu
     cached.meter.give_back(bytes, bytes);
 }
 
-/// Forgets what is cached of the procedures of the module with that index.
+/// Forgets the cached data of the procedures of the module with that index.
 fn forget_module_procedures<'a, I: ModuleTables>(cached: &mut CachedModules<'a, I>, number: usize)
     requires { number < length cached.old }
     ensures { cached.new ≡ cached.old }
@@ -163,8 +164,8 @@ fn note_left(left: &mut Vec<bool>, number: usize) -> bool {
     }
 }
 
-/// Forgets what is cached of the procedures of the module with that index, where procedures take
-/// more bytes than they may: line rows first, which take the least time to be read again.
+/// Forgets cached data of the procedures of the module with that index, where procedures take more
+/// bytes than they may: line rows first, which take the least time to be read again.
 fn forget_of_procedures<'a, I: ModuleTables>(cached: &mut CachedModules<'a, I>, number: usize)
     requires { number < length cached.old }
     ensures { cached.new ≡ cached.old }
@@ -179,9 +180,9 @@ fn forget_of_procedures<'a, I: ModuleTables>(cached: &mut CachedModules<'a, I>, 
 
 /// Leaves the module that was asked for last, where another one is asked for now. Where much is
 /// cached, the module is forgotten if it is left for the first time: most modules are asked for
-/// once. Else, where procedures take more bytes than they may, its line rows are, or all of its
-/// procedures. Questions that go from module to module, in turn and again, then find those that were
-/// cached first.
+/// once. Otherwise, where procedures take more bytes than they may, its line rows are forgotten, or
+/// all of its procedures. Questions that go from module to module, in turn and again, then find the
+/// modules that were cached first.
 #[tactic(auto, using(crate::proofs::KeptSteps::one_forgotten))]
 fn leave_last<'a, I: ModuleTables>(cached: &mut CachedModules<'a, I>, module_index: usize)
     ensures { (own : ℕ → Option ModuleData) → AreKept own cached.old → AreKept own cached.new }
@@ -239,7 +240,7 @@ pub fn keep_module<'a, P: ModuleProvider>(
 }
 
 /// Reads line program and inlinees of the module of a place, if its data are cached there, and
-/// caches them too. Returns about how many bytes were cached.
+/// caches them too. Returns the approximate number of bytes that were cached.
 fn keep_lines_at<'a, I: ModuleTables>(
     alloc: Global,
     place: &mut KeptModule<'a, I>,
@@ -272,7 +273,7 @@ pub fn keep_lines<'a, I: ModuleTables>(
 }
 
 /// Reads the data of the procedure with that index, if its module's data are cached there, and
-/// caches them too. Returns about how many bytes were cached.
+/// caches them too. Returns the approximate number of bytes that were cached.
 fn keep_procedure_at<'a, I: ModuleTables>(
     alloc: Global,
     kept_module: &mut KeptModule<'a, I>,
@@ -307,7 +308,7 @@ pub fn keep_procedure<'a, I: ModuleTables>(
 }
 
 /// Reads the line rows of the function that begins at a place, if its module's data are cached
-/// there, and caches them too. Returns about how many bytes were cached.
+/// there, and caches them too. Returns the approximate number of bytes that were cached.
 fn keep_public_rows_at<'a, I: ModuleTables>(
     alloc: Global,
     kept_module: &mut KeptModule<'a, I>,
@@ -341,7 +342,7 @@ pub fn keep_public_rows<'a, I: ModuleTables>(
     Ok(())
 }
 
-/// The data that are cached of the module with that index, if there are some.
+/// The data that are cached of the module with that index, if there are any.
 pub fn known_at<'m, 'a, I: ModuleTables>(
     kept: &'m CachedModules<'a, I>,
     module_index: usize,

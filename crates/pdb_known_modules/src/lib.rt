@@ -1,7 +1,7 @@
-//! One cache of modules that were asked for. It has a place for each, in which stands what was read
-//! of it: the data of its stream, its line program and inlinees, its line rows by subsection, and
-//! the data of its procedures. The crate also says where procedures begin and end in sections, and
-//! how far it is to the next such place. It knows no names and no addresses of an image.
+//! One cache of modules that were asked for. It has a place for each, which holds the data read of
+//! it: the data of its stream, its line program and inlinees, its line rows by subsection, and the
+//! data of its procedures. The crate also gives the starts and ends of procedures in sections, and
+//! the distance to the next one. It knows no names and no addresses of an image.
 //!
 //! What is cached, and when it is forgotten, may change, since no answer shows it. What a module
 //! has at a place may not.

@@ -1,5 +1,5 @@
-//! How many bytes of modules' data are cached, and how many may be. No clause speaks of it, since
-//! what is cached shows in no answer.
+//! The number of bytes of modules' data that are cached, and its limits. No clause speaks of it,
+//! since no answer shows what is cached.
 
 use crate::modules::BasicModuleInfo;
 use pdb_resolving::ModuleTables;
@@ -7,50 +7,54 @@ use pdb_symbols_modules::Module;
 use std::alloc::{AllocError, Global};
 use std::collections::BTreeSet;
 
-/// How many bytes may be cached whatever the modules are: 64 MB. Questions to a database of 10 MB
-/// never get there; with less, random ones to greater databases would read modules again.
+/// The number of bytes that may be cached whatever the modules are: 64 MB. Questions to a database
+/// of 10 MB never get there; with less, random ones to greater databases would read modules again.
 /// docs/COSTS.md has it, and the limits below, under what is cached.
 const ALLOWED: u64 = 64 << 20;
 
-/// How many more bytes may be cached for each byte of the symbols and lines that were read. In all
-/// it is no more than this for each byte of the database, whose streams may list the same pages
-/// over and over. With it 100,000 addresses of the database of 89 MB in docs/PERFORMANCE.md fit.
+/// The number of further bytes that may be cached for each byte of the symbols and lines that were
+/// read. In all it is no more than this for each byte of the database, whose streams may list the
+/// same pages over and over. With it 100,000 addresses of the database of 89 MB in
+/// docs/PERFORMANCE.md fit.
 const FOR_EACH_BYTE: u64 = 4;
 
-/// How many bytes of the symbols and lines that were read don't count in the two limits below: 2 MB.
-/// The answers that wait take about as much. With it 100,000 addresses at random of the database of
-/// 10 MB in docs/PERFORMANCE.md take a little less memory than the ported crate does.
+/// The number of bytes of the symbols and lines that were read that don't count in the two limits
+/// below: 2 MB. The answers that wait take about as much. With it 100,000 addresses at random of
+/// the database of 10 MB in docs/PERFORMANCE.md take a little less memory than the ported crate
+/// does.
 const UNCOUNTED: u64 = 2 << 20;
 
-/// How many bytes may be cached of modules but for their procedures, beside one for each eight bytes
-/// that count of the symbols and lines that were read: 64 KB. Past that a module is forgotten once
-/// another one is asked for, but only the first time. This limit and the next one were tuned on the
-/// databases in docs/PERFORMANCE.md, to take no more memory there than the ported crate does.
+/// The number of bytes that may be cached of modules but for their procedures, beside one for each
+/// eight bytes that count of the symbols and lines that were read: 64 KB. Past that a module is
+/// forgotten once another one is asked for, but only the first time. This limit and the next one
+/// were tuned on the databases in docs/PERFORMANCE.md, to take no more memory there than the ported
+/// crate does.
 const ALLOWED_MODULES: u64 = 64 << 10;
 
-/// How many bytes may be cached of procedures, beside five for each eight bytes that count of the
-/// symbols and lines that were read: 256 KB. Past half of that the line rows of a module are
-/// forgotten once another module is asked for; past all of it also its procedures are.
+/// The number of bytes that may be cached of procedures, beside five for each eight bytes that
+/// count of the symbols and lines that were read: 256 KB. Past half of that the line rows of a
+/// module are forgotten once another module is asked for; past all of it its procedures are, too.
 const ALLOWED_PROCEDURES: u64 = 256 << 10;
 
 /// Counts the bytes that are cached of modules.
 #[derive(Drop)]
 pub struct Meter {
-    /// How many bytes are cached.
+    /// The number of cached bytes.
     cached: u64,
-    /// How many of them are of procedures.
+    /// The number of cached bytes that are of procedures.
     procedures: u64,
-    /// How many bytes of symbols and lines were read, each stream's once.
+    /// The number of bytes of symbols and lines that were read, each stream's once.
     read: u64,
-    /// How many of the others may be cached of modules that are left for the first time.
+    /// The number of bytes, but for those of procedures, that may be cached of modules that are
+    /// left for the first time.
     allowed_modules: u64,
-    /// How many of them may be of procedures.
+    /// The number of bytes that may be cached of procedures.
     allowed_procedures: u64,
     /// The most that one part takes: a part is cached whatever its size, and for its size alone
     /// nothing is forgotten.
     greatest: u64,
-    /// How many may be cached besides that part. It grows with the symbols and lines that were
-    /// read.
+    /// The number of bytes that may be cached besides that part. It grows with the symbols and
+    /// lines that were read.
     allowed: u64,
     /// The most that `allowed` grows to.
     most_allowed: u64,
@@ -138,7 +142,7 @@ impl Meter {
         Ok(())
     }
 
-    /// Nothing is cached any more. What is allowed stays.
+    /// Forgets the count of cached bytes, of which none is left. The limits stay.
     pub fn clear(&mut self) {
         self.cached = 0;
         self.procedures = 0;

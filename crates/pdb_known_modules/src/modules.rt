@@ -1,4 +1,4 @@
-//! What a module's own stream says.
+//! The data of a module's own stream.
 
 ghost use Rattle.std.specs.Prelude.{◌≡◌, ◌↔◌, true, IfOk, IfSome, None, Ok, Some, option_copied};
 ghost use Rattle.std.specs.Prelude.{option_map, slice_get};
@@ -29,35 +29,36 @@ use pdb_symbols_modules::Module;
 use std::alloc::{AllocError, Global};
 use std::marker::Model;
 
-/// How many bytes of memory the bounds of a procedure take.
+/// The number of bytes of memory that the bounds of a procedure take.
 const BOUNDS_SIZE: usize = 2 * size_of::<u64>();
 
-/// About how many bytes of memory the rows of a subsection take besides the rows themselves.
+/// The approximate number of bytes of memory that the rows of a subsection take besides the rows
+/// themselves.
 const SUBSECTION_ROWS_SIZE: u64 = 100;
 
 /// A module's data: its stream, and its procedures.
 pub struct BasicModuleInfo<'a, I: ModuleTables> {
     /// The module's own stream.
     pub module_info: &'a I,
-    /// Its procedures, of those of one start the first.
+    /// Its procedures, the first of each start.
     pub procedures: Procedures<'a>,
-    /// Where they begin and end.
+    /// The starts and ends of its procedures.
     bounds: SortedBounds,
     /// Its line program and inlinees, once they were read.
     extended: Option<ExtendedModuleInfo<'a>>,
-    /// For each procedure a slot, in which its data are cached once they were read; no slot before
+    /// A slot for each procedure, in which its data are cached once they were read; no slot before
     /// line program and inlinees are.
     kept_procedures: Vec<Option<Box<KeptProcedure<'a>>>>,
-    /// For each `DEBUG_S_LINES` a slot, in which its rows are cached once they were read; no slot
+    /// A slot for each `DEBUG_S_LINES`, in which its rows are cached once they were read; no slot
     /// before line program and inlinees are.
     subsection_rows: SubsectionRows,
-    /// How many bytes its line data have.
+    /// The number of bytes of its line data.
     line_data_size: u32,
-    /// About how many bytes line program and inlinees take, if they are cached.
+    /// The approximate number of bytes that line program and inlinees take, if they are cached.
     extended_size: u64,
-    /// About how many bytes its procedures take that are cached, and the rows of subsections.
+    /// The approximate number of bytes of its cached procedures, and of the rows of subsections.
     procedures_size: u64,
-    /// How many of these the rows of subsections take.
+    /// The number of these bytes that the rows of subsections take.
     rows_size: u64,
 }
 
@@ -72,8 +73,8 @@ impl<'a, I: ModuleTables> Model for BasicModuleInfo<'a, I> {
 
     ghost view = { λ m. record { stream = I.held m.module_info.now; procedures = m.procedures } };
 
-    // The bounds are those of the procedures. What is cached of lines and inlinees is the stream's,
-    // and so is what is cached of procedures and of the rows of subsections.
+    // The bounds are those of the procedures. The cached lines and inlinees are the stream's, and
+    // so are the cached data of procedures and the rows of subsections.
     ghost invariant = { λ m. AreProcedureBounds m.procedures m.bounds
         × AreExtended (I.held m.module_info.now) m.extended
         × AreOfStream (I.held m.module_info.now) m.kept_procedures.items
@@ -130,8 +131,8 @@ impl<'a, I: ModuleTables> BasicModuleInfo<'a, I> {
         })
     }
 
-    /// Forgets what is cached of procedures and of the rows of subsections. Returns about how many
-    /// bytes that took.
+    /// Forgets the cached data of procedures and the rows of subsections. Returns the approximate
+    /// number of their bytes.
     #[tactic(auto, using(crate::proofs::KeptProcedures::nothing_kept))]
     pub(crate) fn forget_procedures(&mut self) -> u64
         ensures { self.new ≡ self.old }
@@ -144,7 +145,7 @@ impl<'a, I: ModuleTables> BasicModuleInfo<'a, I> {
         bytes
     }
 
-    /// Forgets what is cached of the rows of subsections. Returns about how many bytes that took.
+    /// Forgets the cached rows of subsections. Returns the approximate number of their bytes.
     pub(crate) fn forget_rows(&mut self) -> u64
         ensures { self.new ≡ self.old }
     {
@@ -164,18 +165,18 @@ impl<'a, I: ModuleTables> BasicModuleInfo<'a, I> {
         self.bounds.up_to_next(place, far)
     }
 
-    /// About how many bytes of memory its stream's data and its procedures take.
+    /// The approximate number of bytes of memory that its stream's data and its procedures take.
     pub(crate) fn memory_size(&self) -> u64 {
         let bounds = memory_of(self.procedures.as_slice().len(), BOUNDS_SIZE);
         self.procedures.memory_size().saturating_add(bounds)
     }
 
-    /// About how many bytes its procedures take that are cached, and the rows of subsections.
+    /// The approximate number of bytes of its cached procedures, and of the rows of subsections.
     pub(crate) fn procedures_size(&self) -> u64 {
         self.procedures_size
     }
 
-    /// About how many bytes all take that is cached of it.
+    /// The approximate number of bytes of all its cached data.
     pub(crate) fn cached_size(&self) -> u64 {
         self.memory_size()
             .saturating_add(self.extended_size)
@@ -183,8 +184,8 @@ impl<'a, I: ModuleTables> BasicModuleInfo<'a, I> {
     }
 
     /// Reads the line program and the inlinees, and caches them, unless they were cached before.
-    /// Nothing is cached where they have a fault, or where memory is short. Returns about how many
-    /// bytes were cached.
+    /// Nothing is cached where they have a fault, or where memory is short. Returns the approximate
+    /// number of bytes that were cached.
     ///
     /// # Errors
     /// `AllocError` when memory runs out.
@@ -221,7 +222,7 @@ impl<'a, I: ModuleTables> BasicModuleInfo<'a, I> {
     /// Reads the line rows and the inline sites of the procedure with that index, if line program
     /// and inlinees are cached, and caches them, unless they were cached before. Rows or sites
     /// aren't cached where they have a fault, or where memory is short. After a fault of the rows
-    /// no sites are read. Returns about how many bytes were cached.
+    /// no sites are read. Returns the approximate number of bytes that were cached.
     ///
     /// # Errors
     /// `AllocError` when memory runs out.
@@ -254,7 +255,7 @@ impl<'a, I: ModuleTables> BasicModuleInfo<'a, I> {
 
     /// Reads the inline sites of the procedure with that index, if its line rows are cached, and
     /// caches them, unless they were cached before. Nothing is cached where they have a fault, or
-    /// where memory is short. Returns about how many bytes were cached.
+    /// where memory is short. Returns the approximate number of bytes that were cached.
     #[tactic(auto, using(crate::proofs::KeptProcedures::kept_now))]
     fn keep_sites(&mut self, alloc: Global, number: usize) -> std::result::Result<u64, AllocError>
         ensures { self.new ≡ self.old }
@@ -273,9 +274,9 @@ impl<'a, I: ModuleTables> BasicModuleInfo<'a, I> {
         }
     }
 
-    /// What is cached of the procedure with that index; `None` where line program and inlinees
-    /// aren't cached, where there is no such procedure, where its line rows aren't cached, and
-    /// where its sites have a fault.
+    /// The data to be cached of the procedure with that index; `None` where line program and
+    /// inlinees aren't cached, where there is no such procedure, where its line rows aren't cached,
+    /// and where its sites have a fault.
     fn read_procedure(
         &self,
         alloc: Global,
@@ -343,8 +344,8 @@ impl<'a, I: ModuleTables> BasicModuleInfo<'a, I> {
 
     /// Reads the line rows of the function that begins at a place, if line program and inlinees are
     /// cached, and caches them for all functions of their `DEBUG_S_LINES`, unless they were cached
-    /// before. Nothing is cached where they have a fault, or where memory is short. Returns about
-    /// how many bytes were cached.
+    /// before. Nothing is cached where they have a fault, or where memory is short. Returns the
+    /// approximate number of bytes that were cached.
     ///
     /// # Errors
     /// `AllocError` when memory runs out.
@@ -425,7 +426,7 @@ fn data_if_read<'a, I: ModuleTables>(
 }
 
 /// The data of the module with that index, counted from 0; `None` past the list, where it has no
-/// stream, and where that or its symbols can't be read to the end.
+/// stream, and where its stream or its symbols can't be read to the end.
 ///
 /// # Errors
 /// `AllocError` when memory runs out.
@@ -459,9 +460,9 @@ pub struct ExtendedModuleInfo<'a> {
     pub inlinees: Inlinees<'a>,
 }
 
-/// About how many bytes of memory line program and inlinees of a module take, at most, with the
-/// slots for the data of so many procedures. A subsection of 20 bytes or more takes 32, and 8 for
-/// the slot of its rows.
+/// The approximate number of bytes of memory that line program and inlinees of a module take, at
+/// most, with the slots for the data of so many procedures. A subsection of 20 bytes or more takes
+/// 32, and 8 for the slot of its rows.
 fn extended_size(extended: &ExtendedModuleInfo<'_>, line_data_size: u32, count: usize) -> u64 {
     let lines = u64::from(line_data_size) * 2;
     let slots = memory_of(count, size_of::<usize>());

@@ -1,4 +1,4 @@
-//! What is read of a procedure once, for all places in it.
+//! The data that are read of a procedure once, for all places in it.
 
 ghost use Rattle.std.specs.Prelude.{◌≡◌, ◌↔◌, true, IfOk};
 ghost use Rattle.pdb_module_data.specs.InlinedCalls.{stored_rows};
@@ -18,11 +18,11 @@ use pdb_resolving::{Error, ModuleTables, Result};
 use pdb_symbol_records::SymbolIter;
 use std::alloc::Global;
 
-/// About how many bytes of memory the data of a procedure take besides its sites.
+/// The approximate number of bytes of memory that the data of a procedure take besides its sites.
 const PROCEDURE_SIZE: u64 = 200;
 
-/// What the line and the inlined calls at each place of a procedure are found by: the rows of its
-/// `DEBUG_S_LINES`, and its inline sites.
+/// The data by which the line and the inlined calls at each place of a procedure are found: the
+/// rows of its `DEBUG_S_LINES`, and its inline sites.
 #[derive(Drop)]
 pub struct ExtendedProcedureInfo<'a> {
     /// Its line rows.
@@ -31,7 +31,7 @@ pub struct ExtendedProcedureInfo<'a> {
     pub ranges: InlineRanges<'a>,
 }
 
-/// What [`ExtendedProcedureInfo`] has, lent from what is cached.
+/// The data of [`ExtendedProcedureInfo`], lent from the cache.
 #[derive(Clone, Copy)]
 pub struct LentProcedure<'m, 'a> {
     /// Its line rows.
@@ -40,11 +40,11 @@ pub struct LentProcedure<'m, 'a> {
     pub ranges: &'m InlineRanges<'a>,
 }
 
-/// What is cached of a procedure: its inline sites, and the number of the `DEBUG_S_LINES` that has
-/// its rows. These are cached under that number.
+/// The cached data of a procedure: its inline sites, and the number of the `DEBUG_S_LINES` that has
+/// its rows. The rows are cached under that number.
 #[derive(Drop)]
 pub struct KeptProcedure<'a> {
-    /// Where the procedure begins.
+    /// The start of the procedure.
     pub offset: PdbInternalSectionOffset,
     /// The place of its symbol in the module's symbols, in bytes.
     pub symbol_index: SymbolIndex,
@@ -57,7 +57,7 @@ pub struct KeptProcedure<'a> {
 }
 
 impl<'a> KeptProcedure<'a> {
-    /// What is cached of a procedure with these sites, and with the rows of the `DEBUG_S_LINES`
+    /// The cached data of a procedure with these sites, and with the rows of the `DEBUG_S_LINES`
     /// with that number.
     pub fn new(
         procedure: &Procedure<'_>,
@@ -77,7 +77,7 @@ impl<'a> KeptProcedure<'a> {
         }
     }
 
-    /// Whether it was read by the start and the symbols of a procedure.
+    /// Whether the data were read by the start and the symbols of a procedure.
     pub fn is_of(&self, procedure: &Procedure<'_>) -> bool
         ensures { (result ≡ true) ↔ IsReadBy procedure.now self.now }
     {
@@ -86,7 +86,7 @@ impl<'a> KeptProcedure<'a> {
             && procedure.end_symbol_index == self.end_symbol_index
     }
 
-    /// About how many bytes of memory it takes, at most.
+    /// The approximate number of bytes of memory that it takes, at most.
     pub fn memory_size(&self) -> u64 {
         self.ranges.memory_size().saturating_add(PROCEDURE_SIZE)
     }

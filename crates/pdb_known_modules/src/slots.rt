@@ -1,4 +1,4 @@
-//! Lists with a slot for each number, in which something is cached once it was read.
+//! Lists with a slot for each number, in which a value is cached once it was read.
 
 ghost use Rattle.std.specs.Prelude.{◌≡◌, IfOk, None, length, option_map, replicate, slice_get};
 

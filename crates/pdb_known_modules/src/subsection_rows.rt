@@ -10,8 +10,8 @@ use crate::slots::{empty_all, empty_slots, slot_at};
 use pdb_module_data::FunctionRows;
 use std::alloc::{AllocError, Global};
 
-/// Line rows, each at the number of its subsection, these by section and offset and counted from 1.
-/// At 0 are those of functions without a subsection: none.
+/// Line rows, each at the number of its subsection, counted from 1 in the order of section and
+/// offset. The rows at 0 are those of functions without a subsection: none.
 #[derive(Drop)]
 pub struct SubsectionRows {
     slots: Vec<Option<Box<FunctionRows>>>,

@@ -10,19 +10,19 @@ use Rattle.pdb_lines.specs.declared.checksum.FileChecksum.{FileChecksum}
 use Rattle.pdb_lines.specs.declared.checksum.FileChecksum.TheVariants as sums
 use Rattle.pdb_lines.specs.declared.checksum.FileInfo.{FileInfo}
 
--- the checksum of a source file, by how it was made
+-- the checksum of a source file, by its kind
 pub data Checksum : Type 0 where
   no_sum : Checksum
   md5 : List ℕ → Checksum
   sha_1 : List ℕ → Checksum
   sha_256 : List ℕ → Checksum
 
--- a source file: where its name is in the string table, and its checksum
+-- a source file: the offset of its name in the string table, and its checksum
 pub record File : Type 0 where
   pub name : ℕ
   pub checksum : Checksum
 
--- the checksum that these bytes are, by the number of its kind
+-- the checksum of these bytes, by the number of its kind
 abbrev pub checksum_of : ℕ → List ℕ → Checksum
 checksum_of kind bytes =
     if kind == 0 then no_sum
@@ -30,7 +30,7 @@ checksum_of kind bytes =
 
 -- A file in a list of that many bytes: its name, the size and the kind of its checksum, the
 -- checksum, and padding to a multiple of 4 from the list's start. An unknown kind is reported
--- before bytes that are missing after it.
+-- before missing bytes after it.
 unfoldable pub file_at : ℕ → Reader File
 file_at whole bytes = do
   name ← number_at w32 bytes

@@ -1,6 +1,6 @@
--- The rows of an inlined call: sums and last values of the annotations before a row, and lengths by
--- those after it. What each annotation does to a row follows microsoft-pdb's cvinfo.h
--- (BinaryAnnotationOpcode) and the pdb crate.
+-- The rows of an inlined call: sums and last values of the annotations before a row, and lengths
+-- from the annotations after it. The effect of each annotation on a row follows microsoft-pdb's
+-- cvinfo.h (BinaryAnnotationOpcode) and the pdb crate.
 use Rattle.std.specs.Prelude.{ℕ, ◌+◌, ◌-◌, ◌%◌, ◌^◌, Bool, true, false, ◌&&◌, nat_le, nat_lt, ◌==◌}
 use Rattle.std.specs.Prelude.{List, [], ◌∷◌, ◌++◌, length, take, Option, None, Some, if◌then◌else◌}
 use Rattle.std.specs.Prelude.{unwrap_or, option_map}
@@ -44,11 +44,11 @@ last_column_behind o before =
     option_map (λ column. (column + total column_change (behind_last last_column before)) % 2 ^ 32)
     (option_or (last_given last_column before) o.last_column)
 
--- what a row is of: a statement or an expression
+-- the kind of a row: a statement or an expression
 abbrev pub kind_behind : AnnotationState → List BinaryAnnotation → LineInfoKind
 kind_behind o before = unwrap_or (last_given range_kind before) o.kind
 
--- what the annotations up to a row's, that one among them, say of it
+-- the row that the annotations up to the row's own give
 unfoldable pub row_behind : AnnotationState → List BinaryAnnotation → Option ℕ → LineInfo
 row_behind o before length = record {
   offset = record { offset = place_behind o before; section = o.section };
@@ -78,7 +78,7 @@ length_by o start kind before a =
     else None
 
 -- the first length that annotations give such a row, up to the next annotation that gives a row,
--- that one among them
+-- which is counted among them
 unfoldable pub length_behind : AnnotationState → ℕ → LineInfoKind → List BinaryAnnotation
     → List BinaryAnnotation → Option ℕ
 length_behind o start kind before [] = None
@@ -103,12 +103,12 @@ rows_behind o before (a ∷ after) =
     ∷ rows_behind o (before ++ a ∷ []) after
     else rows_behind o (before ++ a ∷ []) after
 
--- rows without the last of them, where a fault follows them
+-- rows without the last of them, if a fault follows them
 abbrev pub before_fault : Option Fault → List LineInfo → List LineInfo
 before_fault None rows = rows
 before_fault (Some e) rows = take (length rows - 1) rows
 
--- what holds before the first annotation: a place, a function's file and line, a last line after
+-- the state before the first annotation: a place, a function's file and line, a last line after
 -- that one, and no columns
 abbrev pub initial_state : PdbInternalSectionOffset → InlinedFunction → AnnotationState
 initial_state place function = record {
@@ -123,8 +123,8 @@ initial_state place function = record {
   kind = made_of.Statement;
 }
 
--- the rows of annotations: all of them; or those that are certain, where a fault ends the
--- annotations, and that fault
+-- the rows of annotations: all of them; or, where a fault ends the annotations, the rows that are
+-- certain, and that fault
 unfoldable pub all_rows : AnnotationState → Listing BinaryAnnotation → Listing LineInfo
 all_rows o l = record { items = before_fault l.fault (rows_behind o [] l.items); fault = l.fault }
 

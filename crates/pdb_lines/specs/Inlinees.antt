@@ -8,7 +8,8 @@ use Rattle.pdb_container.specs.Listing.{Listing, listing}
 use Rattle.pdb_container.specs.declared.index.IdIndex.{IdIndex}
 use Rattle.pdb_container.specs.declared.index_numbers.FileIndex.{FileIndex}
 
--- an inlinee: the id of an inlined function, the file of its text and the line at which that begins
+-- an inlinee: the id of an inlined function, the file of its text and the line at which the text
+-- begins
 pub record InlinedFunction : Type 0 where
   pub index : IdIndex
   pub file : FileIndex

@@ -18,8 +18,8 @@ use Rattle.pdb_lines.specs.LinesSubsections.{LinesSubsection}
 
 -- ---- blocks
 
--- a lines block, the entries of one file: where their subsection begins, how many they are, the
--- bytes of their places and lines, and of their columns
+-- a lines block, the entries of one file: the place at which their subsection begins, their number,
+-- the bytes of their places and lines, and of their columns
 pub record LinesBlock : Type 0 where
   pub section : ℕ
   pub offset : ℕ
@@ -48,8 +48,8 @@ block_in subsection file count bytes = do
     columns = columns;
   }
 
--- A block of a subsection: a file, a number of entries, a size, and what is missing to that many
--- bytes, the 12 before it counted. What follows its entries is passed over.
+-- A block of a subsection: a file, a number of entries, a size, and the bytes missing to that size,
+-- the 12 before it counted. The bytes after its entries are passed over.
 unfoldable pub block_at : LinesSubsection → Reader LinesBlock
 block_at subsection bytes = do
   file ← number_at w32 bytes
@@ -67,11 +67,11 @@ abbrev pub column_at : Option (List ℕ) → ℕ → Option ℕ
 column_at None at = None
 column_at (Some bytes) at = Some (half_at bytes at)
 
--- two numbers that are no lines
+-- whether a number is that of a line, which two numbers aren't
 abbrev pub is_line : ℕ → Bool
 is_line line = not (line == 0xfeefee || line == 0xf00f00)
 
--- whether bit 31 isn't set
+-- the kind of a row: an expression where bit 31 of its flags isn't set, otherwise a statement
 abbrev pub line_kind : ℕ → LineInfoKind
 line_kind flags = if nat_lt flags (2 ^ 31) then kinds.Expression else kinds.Statement
 
@@ -93,11 +93,11 @@ row_with section offset flags file start end = record {
 abbrev pub entry_place : LinesBlock → ℕ → ℕ
 entry_place b i = b.offset + word_at b.lines (8 * i)
 
--- its line and kind
+-- the line and kind of entry i
 abbrev pub entry_flags : LinesBlock → ℕ → ℕ
 entry_flags b i = word_at b.lines (8 * i + 4)
 
--- the row that it begins: none past 32 bits, and none without a line
+-- the row that entry i begins: none past 32 bits, and none without a line
 abbrev pub entry_row : LinesBlock → ℕ → Option LineInfo
 entry_row b i =
     if nat_lt (entry_place b i) (2 ^ 32) && is_line (entry_flags b i % 2 ^ 24)
@@ -142,8 +142,8 @@ marks_of [] = ending None
 marks_of (subsection ∷ subsections) = marks_before (blocks_of subsection subsection.blocks)
     (before (end_mark subsection) (marks_of subsections))
 
--- marks of which these entries come first, then the blocks in these bytes, which are the first
--- subsection's, and then the other subsections
+-- the marks of these entries, then of the blocks in these bytes, which are the first subsection's,
+-- and then of the other subsections
 abbrev pub marks_left : List LineMark → List ℕ → List LinesSubsection → Listing LineMark
 marks_left entries blocks [] = chained entries None (ending None)
 marks_left entries blocks (subsection ∷ subsections) =
@@ -151,7 +151,7 @@ marks_left entries blocks (subsection ∷ subsections) =
     (marks_before (blocks_of subsection blocks)
     (before (end_mark subsection) (marks_of subsections)))
 
--- An entry's mark of those that were still to come, and those after it.
+-- The next entry's mark of those that were still to come, and the marks after it.
 abbrev pub GivesMark : List LineMark → Option LineMark → List LineMark → Type 0
 GivesMark old (Some mark) new = old ≡ mark ∷ new
 GivesMark old None new = (old ≡ []) × (new ≡ [])

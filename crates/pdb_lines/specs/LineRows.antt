@@ -1,5 +1,5 @@
--- Rows: what begins at an entry, and how far it is from there to the marks after it. That a row
--- goes on to the next entry or its subsection's end is what the pdb crate's lines say, too.
+-- Rows: the row that begins at an entry, and the distance from there to the marks after it. The
+-- rule that a row goes on to the next entry or its subsection's end is the pdb crate's, too.
 use Rattle.std.specs.Prelude.{◌≡◌, Result, Ok, Err, ℕ, ◌-◌, ◌^◌, ◌&&◌, Bool, true, false, List, []}
 use Rattle.std.specs.Prelude.{drop, take}
 use Rattle.std.specs.Prelude.{◌∷◌, nat_lt, nat_le, ◌==◌, min, if◌then◌else◌, Option, Some, None}
@@ -15,7 +15,7 @@ use Rattle.pdb_lines.specs.declared.line_mark.LineMark.TheVariants as marks
 use Rattle.pdb_lines.specs.LinesSubsections.{LinesSubsection, Program, rank, place_rank}
 use Rattle.pdb_lines.specs.LineMarks.{marks_of}
 
--- how far it is from a place to another: none in another section, none backward, and none past 32
+-- the distance from a place to another: none in another section, none backward, and none past 32
 -- bits
 abbrev pub distance_to : PdbInternalSectionOffset → ℕ → ℕ → Option ℕ
 distance_to from section place =
@@ -24,7 +24,7 @@ distance_to from section place =
     then Some (place - from.offset)
     else None
 
--- how far it is from a place to a mark: an entry, or the end of a subsection
+-- the distance from a place to a mark: an entry, or the end of a subsection
 abbrev pub distance_to_mark : PdbInternalSectionOffset → LineMark → Option ℕ
 distance_to_mark from (marks.Entry section place row) = distance_to from section place
 distance_to_mark from (marks.End section place) = distance_to from section place
@@ -42,7 +42,7 @@ nearest from (marks.Entry section place row ∷ others) = distance_to from secti
 nearest from (marks.End section place ∷ others) =
     closer (distance_to from section place) (nearest from others)
 
--- Whether the marks up to the next entry are known. Where a fault comes before it, they aren't.
+-- Whether the marks up to the next entry are known. They aren't where a fault comes before it.
 abbrev pub is_decided : List LineMark → Option Fault → Bool
 is_decided [] None = true
 is_decided [] (Some e) = false
@@ -63,7 +63,7 @@ with_length row length = record {
 }
 
 -- A row that may have begun, by the marks after it: it has the least distance to them as its
--- length. It isn't there where they aren't known.
+-- length. There is no row where the marks aren't known.
 abbrev pub row_before : Option LineInfo → Listing LineMark → Option LineInfo
 row_before None others = None
 row_before (Some row) others =
@@ -87,12 +87,12 @@ rows_among (marks.End section place ∷ others) end = rows_among others end
 abbrev pub rows_of : Listing LineMark → Listing LineInfo
 rows_of l = rows_among l.items l.fault
 
--- a row that has begun, if there is one, and those that begin at marks
+-- a row that has begun, if there is one, and the rows that begin at marks
 abbrev pub rows_with_begun : Option LineInfo → Listing LineMark → Listing LineInfo
 rows_with_begun row l = with_row (row_before row l) (rows_of l)
 
--- A row of those that were still to come, with the row that has begun after it; or an end, or the
--- fault.
+-- A row of those that were still to come, with the row that has begun after it; or the end of the
+-- rows, or their fault.
 abbrev pub GivesRow : Listing LineInfo → Result (Option LineInfo × Option LineInfo) Error
     → Listing LineMark → Type 0
 GivesRow old (Ok (Some row, begun)) marks = old ≡ before row (rows_with_begun begun marks)
@@ -105,7 +105,7 @@ GivesRow old (Err e) marks = IsOfBytes e × (old ≡ ending (Some (fault_of e)))
 abbrev pub line_rows : Program → Listing LineInfo
 line_rows p = rows_of (marks_of p.subsections)
 
--- a subsection that may be there after others, or else one before it
+-- a subsection that may be there after others, or else a subsection before it
 abbrev pub or_before : Option LinesSubsection → Option LinesSubsection → Option LinesSubsection
 or_before (Some later) earlier = Some later
 or_before None earlier = earlier

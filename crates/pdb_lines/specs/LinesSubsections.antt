@@ -12,8 +12,8 @@ use Rattle.pdb_addresses.specs.InOrder.{in_order}
 use Rattle.pdb_subsections.specs.Subsections.{lines_kind, files_kind, Subsection, subsections_of}
 use Rattle.pdb_subsections.specs.Subsections.{first_of}
 
--- a lines subsection: where its code begins, how many bytes of code it has, whether it has columns,
--- and the bytes of its blocks
+-- a lines subsection: the place at which its code begins, the number of bytes of its code, whether
+-- it has columns, and the bytes of its blocks
 pub record LinesSubsection : Type 0 where
   pub section : ℕ
   pub offset : ℕ
@@ -56,15 +56,15 @@ lines_subsections_of l = lines_subsections_among l.items l.fault
 abbrev pub place_rank : ℕ → ℕ → ℕ
 place_rank section offset = section * 2 ^ 32 + offset
 
--- where a lines subsection begins, as one number
+-- the place at which a lines subsection begins, as one number
 abbrev pub rank : LinesSubsection → ℕ
 rank r = place_rank r.section r.offset
 
--- by section and offset
+-- the order of lines subsections by section and offset
 abbrev pub place_cmp : LinesSubsection → LinesSubsection → Ordering
 place_cmp a b = nat_cmp (rank a) (rank b)
 
--- the subsections by section and offset; those that begin at one place stay in their order
+-- the subsections by section and offset; subsections that begin at one place stay in their order
 abbrev pub sorted_subsections_of : Listing Subsection → Result (List LinesSubsection) Fault
 sorted_subsections_of l = lines_subsections_of l
     >>= λ subsections. Ok (in_order place_cmp subsections)
@@ -79,7 +79,7 @@ abbrev pub or_nothing : Option (List ℕ) → List ℕ
 or_nothing (Some bytes) = bytes
 or_nothing None = []
 
--- what a module's line data say
+-- the line program of a module's line data
 unfoldable pub program_of : List ℕ → Result Program Fault
 program_of bytes = do
   subsections ← sorted_subsections_of (subsections_of bytes)

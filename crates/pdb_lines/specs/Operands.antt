@@ -1,4 +1,4 @@
--- What annotations give, and the sums and last values of what they give.
+-- The values that annotations give, and their sums and last values.
 use Rattle.std.specs.Prelude.{ℕ, ◌==◌, List, [], ◌∷◌, Option, None, Some, if◌then◌else◌, unwrap_or}
 use Rattle.std.specs.List.{sum_by}
 use Rattle.std.specs.Option.{option_or, is_some}
@@ -9,19 +9,19 @@ use Rattle.pdb_symbol_records.specs.declared.annotation.BinaryAnnotation.TheVari
 use Rattle.pdb_subsections.specs.declared.line_info.LineInfoKind.{LineInfoKind}
 use Rattle.pdb_subsections.specs.declared.line_info.LineInfoKind.TheVariants as made_of
 
--- the last value that is given
+-- the last value that elements of a list give
 abbrev pub last_given : {A X : Type 0} → (A → Option X) → List A → Option X
 last_given given [] = None
 last_given given (a ∷ others) = option_or (last_given given others) (given a)
 
--- what follows the last one that gives a value; everything, where none does
+-- the elements after the last one that gives a value; all of them, where none does
 abbrev pub behind_last : {A X : Type 0} → (A → Option X) → List A → List A
 behind_last given [] = []
 behind_last given (a ∷ others) =
     if is_some (last_given given others) then behind_last given others
     else (if is_some (given a) then others else a ∷ others)
 
--- the sum of what is given
+-- the sum of the values that elements of a list give
 abbrev pub total : {A : Type 0} → (A → Option ℕ) → List A → ℕ
 total given list = sum_by (λ a. unwrap_or (given a) 0) list
 
@@ -30,12 +30,12 @@ abbrev pub code_offset : BinaryAnnotation → Option ℕ
 code_offset (kinds.CodeOffset offset) = Some offset
 code_offset a = None
 
--- what is added to the offset of each row
+-- the number that is added to the offset of each row
 abbrev pub code_base : BinaryAnnotation → Option ℕ
 code_base (kinds.ChangeCodeOffsetBase base) = Some base
 code_base a = None
 
--- by how many bytes the offset moves on
+-- the number of bytes by which the offset moves on
 abbrev pub offset_change : BinaryAnnotation → Option ℕ
 offset_change (kinds.ChangeCodeOffset offset) = Some offset
 offset_change (kinds.ChangeCodeLength length) = Some length
@@ -48,18 +48,18 @@ abbrev pub changed_file : BinaryAnnotation → Option FileIndex
 changed_file (kinds.ChangeFile file) = Some file
 changed_file a = None
 
--- what is added to the line modulo 2^32: a line back is 2^32 - 1 lines on
+-- the number that is added to the line modulo 2^32: a line back is 2^32 - 1 lines on
 abbrev pub line_change : BinaryAnnotation → Option ℕ
 line_change (kinds.ChangeLineOffset line) = Some (cast_unsigned w32 line)
 line_change (kinds.ChangeCodeOffsetAndLineOffset offset line) = Some (cast_unsigned w32 line)
 line_change a = None
 
--- how many lines after the first one the last one lies
+-- the distance in lines from the first line to the last one
 abbrev pub line_length : BinaryAnnotation → Option ℕ
 line_length (kinds.ChangeLineEndDelta lines) = Some lines
 line_length a = None
 
--- what the rows are of; a number past 1 says nothing of it
+-- the kind of the rows; a number past 1 gives none
 abbrev pub range_kind : BinaryAnnotation → Option LineInfoKind
 range_kind (kinds.ChangeRangeKind kind) =
     if kind == 0 then Some made_of.Expression
@@ -76,7 +76,7 @@ abbrev pub last_column : BinaryAnnotation → Option ℕ
 last_column (kinds.ChangeColumnEnd column) = Some column
 last_column a = None
 
--- what is added to the last column modulo 2^32
+-- the number that is added to the last column modulo 2^32
 abbrev pub column_change : BinaryAnnotation → Option ℕ
 column_change (kinds.ChangeColumnEndDelta columns) = Some (cast_unsigned w32 columns)
 column_change a = None

@@ -1,5 +1,5 @@
--- What is still to come of the rows, where one row's length may be open; and what one annotation
--- changes of what is in force.
+-- The rows that are still to come, where one row's length may be open; and the state after an
+-- annotation.
 use Rattle.std.specs.Prelude.{ℕ, ◌+◌, ◌%◌, ◌^◌, List, [], ◌∷◌, ◌++◌, Option, None, Some, unwrap_or}
 use Rattle.std.specs.Prelude.{option_map}
 use Rattle.std.specs.Option.{option_or}
@@ -17,7 +17,7 @@ abbrev pub moved_on : Option ℕ → ℕ → ℕ
 moved_on None n = n
 moved_on (Some change) n = (n + change) % 2 ^ 32
 
--- what is in force after an annotation
+-- the state after an annotation
 abbrev pub state_behind : AnnotationState → BinaryAnnotation → AnnotationState
 state_behind o a = record {
   section = o.section;
@@ -35,13 +35,13 @@ state_behind o a = record {
 abbrev pub completed : LineInfo → Option ℕ → LineInfo
 completed row length = record row { length = option_or row.length length }
 
--- a row that waits for its length, as the annotations after it give that
+-- a row that waits for its length, with the length that the annotations after it give
 unfoldable pub waiting : AnnotationState → Option LineInfo → List BinaryAnnotation → List LineInfo
 waiting o None after = []
 waiting o (Some row) after = completed row (length_behind o row.offset.offset row.kind [] after)
     ∷ []
 
--- that row, and those of the annotations after it
+-- the row that waits, and the rows of the annotations after it
 abbrev pub rows_ahead : AnnotationState → Option LineInfo → List BinaryAnnotation → List LineInfo
 rows_ahead o pending after = waiting o pending after ++ rows_behind o [] after
 

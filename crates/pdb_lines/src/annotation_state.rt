@@ -1,4 +1,4 @@
-//! The state of an inlined call's rows: what is in force at an annotation.
+//! The state of an inlined call's rows before an annotation.
 
 ghost use Rattle.std.specs.Prelude.{◌≡◌, [], ◌∷◌, unwrap_or, option_map};
 ghost use Rattle.pdb_lines.specs.InlinedRows.{row_behind, length_by, place_behind, line_behind};
@@ -20,19 +20,19 @@ pub(crate) struct AnnotationState {
     pub section: u16,
     /// The offset at which the code goes on, in bytes.
     pub offset: u32,
-    /// What is added to that offset at each row, in bytes.
+    /// The number that is added to that offset at each row, in bytes.
     pub base: u32,
     /// The file of the next row.
     pub file: FileIndex,
     /// The line of the next row, counted from 1.
     pub line: u32,
-    /// How many lines after the first one the last one lies.
+    /// The distance in lines from the first line to the last one.
     pub line_length: u32,
     /// The first column, where one was given.
     pub first_column: Option<u32>,
     /// The last column, where one was given.
     pub last_column: Option<u32>,
-    /// What the next row is of.
+    /// The kind of the next row.
     pub kind: LineInfoKind,
 }
 
@@ -57,7 +57,7 @@ fn moved_column(column: Option<u32>, columns: i32) -> Option<u32>
 }
 
 impl AnnotationState {
-    /// Goes on to what holds after an annotation.
+    /// Goes on to the state after an annotation.
     pub(crate) fn pass(&mut self, annotation: BinaryAnnotation)
         ensures { self.new ≡ state_behind self.old annotation }
     {

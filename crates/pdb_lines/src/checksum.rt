@@ -31,13 +31,13 @@ pub enum FileChecksum<'a> {
 /// A source file that code was made from: an entry of `DEBUG_S_FILECHKSMS`.
 #[derive(Clone, Copy, Debug, PartialEq, Eq)]
 pub struct FileInfo<'a> {
-    /// Where its name is in the string table.
+    /// The offset of its name in the string table.
     pub name: StringRef,
     /// The sum over its bytes.
     pub checksum: FileChecksum<'a>,
 }
 
-/// The checksum that these bytes are, by the number of its kind.
+/// The checksum of these bytes, by the number of its kind.
 fn checksum_by(kind: u8, bytes: &[u8]) -> FileChecksum<'_>
     ensures { checksum_seen result ≡ checksum_of kind bytes.now }
 {
@@ -50,8 +50,8 @@ fn checksum_by(kind: u8, bytes: &[u8]) -> FileChecksum<'_>
 }
 
 /// The file at the buffer's place in a list. An unknown kind is refused before the checksum's bytes
-/// are read, so that it comes before `UnexpectedEof` where these are missing. Where it is refused,
-/// the place may have moved.
+/// are read, so that it comes before `UnexpectedEof` where these are missing. Where the file is
+/// refused, the place may have moved.
 #[tactic(auto, unfolding(crate::specs::Checksums::file_at))]
 fn parse_file<'a>(buffer: &mut ParseBuffer<'a>) -> Result<FileInfo<'a>>
     ensures value { ReadsInSteps file_seen result buffer.old buffer.new

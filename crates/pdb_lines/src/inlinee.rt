@@ -110,7 +110,7 @@ fn parse_entry<'a>(buffer: &mut ParseBuffer<'a>, has_files: bool) -> Result<Inli
 }
 
 /// An iterator over the inlinees of a module. In place of one that can't be read it returns
-/// `UnexpectedEof`. Nothing comes after that.
+/// `UnexpectedEof`. No inlinee comes after that.
 #[derive(Debug, Drop)]
 pub struct InlineeIterator<'a> {
     buffer: ParseBuffer<'a>,
@@ -134,8 +134,8 @@ impl<'a> InlineeIterator<'a> {
     /// The inlinees in the bytes of a `DEBUG_S_INLINEELINES`.
     ///
     /// # Errors
-    /// `UnexpectedEof` where there are fewer than four bytes. The iterator returns what is wrong
-    /// with an entry.
+    /// `UnexpectedEof` where there are fewer than four bytes. The iterator returns the fault of an
+    /// entry.
     #[tactic(auto, unfolding(crate::specs::Inlinees::inlinees_of))]
     pub fn parse(bytes: &'a [u8]) -> Result<InlineeIterator<'a>>
         ensures { Parses (λ i. i) result (inlinees_of bytes.now) }
@@ -149,7 +149,7 @@ impl<'a> InlineeIterator<'a> {
         })
     }
 
-    /// No inlinees, as of a module without `DEBUG_S_INLINEELINES`.
+    /// The empty list of inlinees of a module without `DEBUG_S_INLINEELINES`.
     pub fn empty() -> InlineeIterator<'a>
         ensures { result ≡ ending None }
     {

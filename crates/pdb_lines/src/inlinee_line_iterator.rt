@@ -38,8 +38,8 @@ fn place_after(origin: AnnotationState, annotation: BinaryAnnotation) -> u32
     next.place()
 }
 
-/// How many bytes after an offset that row lies, if the annotation gives one and it doesn't lie
-/// before that.
+/// The distance in bytes from an offset to that row, if the annotation gives one and the row
+/// doesn't lie before the offset.
 fn distance_at(origin: AnnotationState, start: u32, annotation: BinaryAnnotation) -> Option<u32>
     ensures { result ≡ (if is_emitting annotation
         then distance start (place_behind origin (annotation ∷ [])) else None) }
@@ -51,7 +51,7 @@ fn distance_at(origin: AnnotationState, start: u32, annotation: BinaryAnnotation
     }
 }
 
-/// The length that an annotation says the code before it has.
+/// The length that an annotation gives the code before it.
 fn length_before(annotation: BinaryAnnotation) -> Option<u32>
     ensures { result ≡ given_length annotation }
 {
@@ -73,8 +73,8 @@ fn length_at(origin: AnnotationState, row: LineInfo, annotation: BinaryAnnotatio
     }
 }
 
-/// Goes over an annotation, where a row may wait for its length. Returns the row that is whole
-/// then.
+/// Goes over an annotation, where a row may wait for its length. Returns the row that is then
+/// whole.
 #[tactic(auto, using(crate::proofs::Steps::first_row, crate::proofs::Steps::next_row, crate::proofs::Steps::still_none, crate::proofs::Steps::still_open))]
 fn pass_annotation(
     origin: &mut AnnotationState,
@@ -97,7 +97,7 @@ fn pass_annotation(
 }
 
 /// An iterator over the rows of an inlined call. Where an annotation can't be read, its fault is
-/// returned in place of the row before it. Nothing comes after that.
+/// returned in place of the row before it. No row comes after that.
 #[derive(Debug, Drop)]
 pub struct InlineeLineIterator<'a> {
     annotations: BinaryAnnotationsIter<'a>,

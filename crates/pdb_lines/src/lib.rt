@@ -1,6 +1,6 @@
 //! Lines of a module's code (`DEBUG_S_LINES`), the files that they are in (`DEBUG_S_FILECHKSMS`),
-//! and inlinees (`DEBUG_S_INLINEELINES`): which functions were inlined, and the rows of their
-//! calls. The layouts are those of microsoft-pdb's cvinfo.h, as the pdb crate reads them.
+//! and inlinees (`DEBUG_S_INLINEELINES`): inlined functions, and the rows of their calls. The
+//! layouts are those of microsoft-pdb's cvinfo.h, as the pdb crate reads them.
 //!
 //! How marks are sorted and searched and rows gone over may change. Which rows there are, how long
 //! each is and in which file (`specs/LineRows`, `specs/InlinedRows`), may not.

@@ -16,7 +16,7 @@ use pdb_container::{Error, FallibleIterator, Result};
 use pdb_subsections::LineInfo;
 use std::marker::Model;
 
-/// How far it is forward from a place to another, whose offset may lie past 32 bits.
+/// The distance forward from a place to another, of which the offset may lie past 32 bits.
 fn distance(from: PdbInternalSectionOffset, section: u16, place: u64) -> Option<u32>
     ensures { result ≡ distance_to from section place }
 {
@@ -38,7 +38,7 @@ fn closer(first: Option<u32>, second: Option<u32>) -> Option<u32>
     }
 }
 
-/// A row that a mark follows.
+/// A row, up to the mark that follows it.
 fn row_up_to(row: LineInfo, section: u16, place: u64) -> LineInfo
     ensures { result
         ≡ with_length row (closer_of row.length (distance_to row.offset section place)) }
@@ -47,7 +47,7 @@ fn row_up_to(row: LineInfo, section: u16, place: u64) -> LineInfo
     LineInfo { length, ..row }
 }
 
-/// A row that may have begun, and that a mark follows.
+/// A row that may have begun, up to the mark that follows it.
 fn up_to_mark(row: Option<LineInfo>, section: u16, place: u64) -> Option<LineInfo>
     ensures { result ≡ option_map
         (λ row. with_length row (closer_of row.length (distance_to row.offset section place))) row }
@@ -58,7 +58,7 @@ fn up_to_mark(row: Option<LineInfo>, section: u16, place: u64) -> Option<LineInf
     }
 }
 
-/// What a mark does after a row that may have begun: the row that ends there, and the one that
+/// Passes a mark after a row that may have begun: returns the row that ends there, and the row that
 /// begins.
 #[tactic(auto, using(crate::proofs::RowSteps::behind_entry, crate::proofs::RowSteps::behind_end))]
 fn pass_mark(row: Option<LineInfo>, mark: LineMark) -> (Option<LineInfo>, Option<LineInfo>)
@@ -73,7 +73,7 @@ fn pass_mark(row: Option<LineInfo>, mark: LineMark) -> (Option<LineInfo>, Option
 
 /// An iterator over rows of lines, in their order: by section and offset of their subsections, and
 /// in a subsection by the order of the file. A fault is returned once. It comes in place of the row
-/// before it too, whose length isn't known.
+/// before it too, of which the length isn't known.
 #[derive(Debug, Drop)]
 pub struct LineIterator<'a> {
     marks: LineMarks<'a>,
@@ -92,7 +92,7 @@ impl<'a> Model for LineIterator<'a> {
 }
 
 /// The next row after one that may have begun and before these marks, and the row that has begun
-/// then.
+/// after it.
 #[tactic(auto, using(crate::proofs::RowSteps::last_row, crate::proofs::RowSteps::lost_row))]
 fn next_row(
     row: Option<LineInfo>,

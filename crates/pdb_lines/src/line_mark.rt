@@ -8,10 +8,10 @@ use crate::lines_block::LinesBlock;
 use pdb_subsections::LineInfo;
 use std::marker::Model;
 
-/// A line's number that is none.
+/// A number that marks an entry without a line.
 pub(crate) const HIDDEN: u32 = 0xfe_efee;
 
-/// Another one.
+/// Another number that marks an entry without a line.
 pub(crate) const ALSO_HIDDEN: u32 = 0xf0_0f00;
 
 /// A line mark: a place in a section; its offset may lie past 32 bits.

@@ -47,7 +47,7 @@ fn or_no_bytes(found: Option<&[u8]>) -> &[u8]
     }
 }
 
-/// How many subsections begin at or before a place, by their rank. It is a binary search.
+/// The number of subsections that begin at or before a place, by their rank. It is a binary search.
 fn number_at(subsections: &[LinesSubsection<'_>], at: u64) -> usize
     requires { IsNonDecreasingBy rank subsections.now }
     ensures bound { result ≤ length subsections.now }
@@ -72,16 +72,16 @@ impl<'a> LineProgram<'a> {
         Ok(LineProgram { subsections, files })
     }
 
-    /// How many `DEBUG_S_LINES` there are.
+    /// The number of `DEBUG_S_LINES`.
     pub fn subsection_count(&self) -> usize
         ensures { result ≡ length self.now.subsections }
     {
         self.subsections.len()
     }
 
-    /// The number of a place's `DEBUG_S_LINES`, these by section and offset and counted from 1: of
-    /// the last one at or before the place; 0 where that one isn't in the place's section. It is a
-    /// binary search.
+    /// The number of a place's `DEBUG_S_LINES`, counted from 1 in the order of section and offset:
+    /// of the last one at or before the place; 0 where that one isn't in the place's section. It is
+    /// a binary search.
     #[tactic(auto, using(crate::proofs::Halving::no_subsection, crate::proofs::Halving::other_section, crate::proofs::Halving::one_subsection))]
     pub fn subsection_number(&self, place: PdbInternalSectionOffset) -> usize
         ensures bound { result ≤ length self.now.subsections }
@@ -94,7 +94,8 @@ impl<'a> LineProgram<'a> {
         number
     }
 
-    /// The subsections of a place: the last one at or before it, where that one is in its section.
+    /// The subsections of a place: the last one at or before it, where that one is in the place's
+    /// section.
     #[tactic(auto, using(crate::proofs::Halving::in_row))]
     fn subsections_at(&self, place: PdbInternalSectionOffset) -> &[LinesSubsection<'a>]
         ensures { result.now ≡ subsections_for self.now place }
@@ -106,7 +107,7 @@ impl<'a> LineProgram<'a> {
         &self.subsections[number - 1..number]
     }
 
-    /// The line rows of all `DEBUG_S_LINES`, these by section and offset.
+    /// The line rows of all `DEBUG_S_LINES`, in the order of section and offset.
     pub fn lines(&self) -> LineIterator<'_>
         ensures { result ≡ line_rows self.now }
     {

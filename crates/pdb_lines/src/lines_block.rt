@@ -14,10 +14,10 @@ use pdb_container::{Error, FileIndex, ParseBuffer, Result, half_at, word_at};
 use pdb_subsections::{LineInfo, LineInfoKind};
 use std::marker::Model;
 
-/// How many bytes of a block lie before its entries.
+/// The number of bytes of a block before its entries.
 const BLOCK_HEADER: usize = 12;
 
-/// A lines block: the entries of one file, and where their subsection begins.
+/// A lines block: the entries of one file, and the place at which their subsection begins.
 #[derive(Debug, Drop)]
 pub(crate) struct LinesBlock<'a> {
     section: u16,
@@ -128,7 +128,7 @@ fn is_line(line: u32) -> bool
     line != HIDDEN && line != ALSO_HIDDEN
 }
 
-/// Whether bit 31 is set.
+/// The kind of a row: an expression where bit 31 of its flags isn't set, otherwise a statement.
 fn kind_by_flags(flags: u32) -> LineInfoKind
     ensures { result ≡ line_kind flags }
 {
@@ -165,7 +165,7 @@ impl<'a> LinesBlock<'a> {
         }
     }
 
-    /// How many entries there are.
+    /// The number of entries.
     pub(crate) fn count(&self) -> usize
         ensures { result ≡ self.now.count }
     {

@@ -1,4 +1,4 @@
-//! Lines subsections (`DEBUG_S_LINES`): runs of code and the lines that they were made from.
+//! Lines subsections (`DEBUG_S_LINES`): runs of code and the lines from which they were made.
 
 ghost use Rattle.std.specs.Prelude.{◌≡◌, ◌+◌, IfOk};
 ghost use Rattle.std.specs.List.Sorted.{IsNonDecreasingBy};
@@ -12,8 +12,8 @@ use pdb_subsections::{DebugSubsectionIterator, LINES};
 use std::alloc::Global;
 use std::marker::Model;
 
-/// A lines subsection (`DEBUG_S_LINES`): where its code begins, how long that is, and the bytes of
-/// its blocks.
+/// A lines subsection (`DEBUG_S_LINES`): the start and the length of its code, and the bytes of its
+/// blocks.
 #[derive(Debug, Drop)]
 pub(crate) struct LinesSubsection<'a> {
     section: u16,
@@ -71,14 +71,14 @@ impl<'a> LinesSubsection<'a> {
         self.section
     }
 
-    /// Where it begins in its section.
+    /// Its start in its section.
     pub(crate) fn offset(&self) -> u32
         ensures { result ≡ self.now.offset }
     {
         self.offset
     }
 
-    /// Where it ends in its section.
+    /// Its end in its section.
     pub(crate) fn end(&self) -> u64
         ensures { result ≡ self.now.offset + self.now.size }
     {

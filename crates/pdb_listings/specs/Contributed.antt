@@ -14,11 +14,11 @@ use Rattle.pdb_listings.specs.declared.modules.ModulePart.{ModulePart}
 use Rattle.pdb_listings.specs.declared.modules.Part.{Part}
 use Rattle.pdb_listings.specs.declared.modules.Part.TheVariants as parts
 
--- whether flags have one of those of a mask
+-- whether flags have one of a mask's flags
 abbrev pub has_flag : ℕ → ℕ → Bool
 has_flag flags mask = not (bit_and flags mask == 0)
 
--- what is contributed to a section with these characteristics
+-- the part of a contribution to a section with these characteristics
 abbrev pub part_by : ℕ → Part
 part_by flags =
     if has_flag flags 0x20000020 then parts.Code
@@ -33,7 +33,7 @@ module_part c = record { «module» = c.«module»; part = part_by c.characteris
 abbrev pub contributed : (ModulePart → Bool) → DBISectionContribution → ℕ
 contributed test c = if test (module_part c) then c.size else 0
 
--- The bytes of a contribution were added to those of its part in a table.
+-- The bytes of a contribution were added to the bytes of its part in a table.
 abbrev pub AddsContribution : DBISectionContribution → List (ModulePart × ℕ)
     → List (ModulePart × ℕ) → Type 0
 AddsContribution c old new = (test : ModulePart → Bool)
@@ -51,7 +51,7 @@ part_number parts.ReadOnly = 1
 part_number parts.Written = 2
 part_number parts.Zeroed = 3
 
--- by module, and by the part's number
+-- the order by module, and by the part's number
 abbrev pub part_cmp : ModulePart → ModulePart → Ordering
 part_cmp a b =
     ordering_then (nat_cmp a.«module» b.«module»)

@@ -11,7 +11,7 @@ use Rattle.pdb_listings.specs.declared.functions.FunctionRow.{FunctionRow}
 use Rattle.pdb_resolving.specs.Fault.{Fault}
 use Rattle.pdb_resolving.specs.Resolving.{Provided}
 
--- the function's own frame among those at an address: the last one, if they can be read
+-- the function's own frame among the frames at an address: the last one, if they can be read
 abbrev pub own_frame : Result (Option FunctionFrames) Fault → Option Frame
 own_frame (Ok (Some found)) = slice_get found.frames (length found.frames - 1)
 own_frame (Ok None) = None
@@ -21,7 +21,7 @@ own_frame (Err e) = None
 abbrev pub FramesRead : Type 0
 FramesRead = Result (Option FunctionFrames) Fault
 
--- Frames have the function's own one of those that were read, if these can be read.
+-- Frames have the function's own one of the frames that were read, if these can be read.
 abbrev pub HaveOwnFrame : FramesRead → Option FunctionFrames → Type 0
 HaveOwnFrame read found = own_frame (Ok found) ≡ own_frame read
 
@@ -57,7 +57,8 @@ abbrev pub AreListed : {P : Type 0} → (P → Provided) → Context P → List 
 AreListed provided c functions =
     AreFunctions c.parts (scope_in provided c) (entries_of c.formatting) functions
 
--- These rows are of the functions that a context lists, each with its place as another one has it.
+-- These rows are of the functions that a context lists, each with its place as another context has
+-- it.
 abbrev pub AreRows : {P : Type 0} → (P → Provided) → Context P → Context P → List FunctionRow
     → Type 0
 AreRows provided lister c rows = (functions : List Function) × AreListed provided lister functions

@@ -5,7 +5,7 @@ use Rattle.pdb_listings.specs.Names.{IsCalled, is_decorated}
 use Rattle.pdb_listings.specs.declared.functions.FunctionRow.{FunctionRow}
 
 -- Whether a name was found to be the one asked for: it was where it is so, whole or without
--- arguments; and if it isn't decorated, there alone. A decorated one may be found undecorated.
+-- arguments; and if it isn't decorated, there alone. A decorated name may be found undecorated.
 abbrev pub IsFoundBy : List ℕ → Option (List ℕ) → Bool → Type 0
 IsFoundBy asked None found = found ≡ false
 IsFoundBy asked (Some name) found =
@@ -16,7 +16,7 @@ IsFoundBy asked (Some name) found =
 abbrev pub IsNamed : Function → List ℕ → Bool → Type 0
 IsNamed f asked found = IsFoundBy asked f.name found
 
--- of each function, whether it has a name
+-- each mark says whether its function has a name
 abbrev pub AreNamed : List ℕ → List FunctionRow → List Bool → Type 0
 AreNamed asked [] [] = Unit {0}
 AreNamed asked [] (m ∷ marks) = ⊥

@@ -17,7 +17,7 @@ use Rattle.pdb_listings.specs.Sizes.{path_name}
 abbrev pub function_named : (List ℕ → Bool) → Function → Bool
 function_named test f = test (text_or f.name)
 
--- and of the path of a source file, or of its folder
+-- a test of names, of the path of a source file, or of its folder
 abbrev pub file_named : Bool → (List ℕ → Bool) → FileAnswer → Bool
 file_named by_folder test f = test (path_name by_folder f)
 
@@ -54,7 +54,7 @@ AddsBytes keyed key bytes old new result = OnOk result
 
 -- ---- the answers of keys
 
--- The bytes by name are those of the keys whose answers have the name.
+-- The bytes by name are the bytes of the keys whose answers have the name.
 abbrev pub SumsNamed : {K A E : Type 0} → ((List ℕ → Bool) → A → Bool) → Keyed K A → List (K × ℕ)
     → Result Table E → Type 0
 SumsNamed named keyed keys result = IfOk result (λ table. (test : List ℕ → Bool)
@@ -71,14 +71,14 @@ abbrev pub SumsPaths : {K E : Type 0} → Bool → Keyed K FileAnswer → List (
     → Type 0
 SumsPaths by_folder = SumsNamed (file_named by_folder)
 
--- The bytes are those of the keys that have an answer.
+-- The bytes are the bytes of the keys that have an answer.
 abbrev pub SumsBytes : {K A E : Type 0} → Keyed K A → List (K × ℕ) → Result Table E → Type 0
 SumsBytes keyed keys result =
     IfOk result (λ table. sum_of table ≡ sum_found keyed.answer_of (λ _. true) keys)
 
 -- ---- the addresses of a range
 
--- The bytes by name are how many addresses of a range have an answer of the name.
+-- The bytes by name are the number of addresses of a range that have an answer of the name.
 abbrev pub CountsNamed : {K A E : Type 0} → ((List ℕ → Bool) → A → Bool) → Map → Keyed K A → ℕ → ℕ
     → Result Table E → Type 0
 CountsNamed named m keyed start end result = IfOk result (λ table. (test : List ℕ → Bool)
@@ -96,7 +96,7 @@ abbrev pub CountsPaths : {K E : Type 0} → Bool → Map → Keyed K FileAnswer 
     → Type 0
 CountsPaths by_folder = CountsNamed (file_named by_folder)
 
--- The bytes are how many addresses of a range have an answer.
+-- The bytes are the number of addresses of a range that have an answer.
 abbrev pub CountsBytes : {K A E : Type 0} → Map → Keyed K A → ℕ → ℕ → Result Table E → Type 0
 CountsBytes m keyed start end result = IfOk result (λ table. sum_of table
     ≡ how_many (λ a. picked (λ _. true) (counted_at m keyed.places a)) start (end - start))

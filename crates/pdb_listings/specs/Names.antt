@@ -2,12 +2,12 @@
 use Rattle.std.specs.Prelude.{◌≡◌, ◌⊎◌, ℕ, zero, suc, ◌+◌, ◌-◌, Bool, false, ◌==◌, ◌&&◌, List, [], ◌∷◌}
 use Rattle.std.specs.Prelude.{take, Option, None, Some, if◌then◌else◌}
 
--- how many closing parentheses have no opening one, before which so many have none: a byte closes
--- one more, opens one, or does neither
+-- the number of closing parentheses without an opening one from a byte on, where so many after it
+-- have none: the byte closes one more, opens one, or does neither
 abbrev pub unopened_by : ℕ → ℕ → ℕ
 unopened_by b n = if b == 41 then n + 1 else (if b == 40 then n - 1 else n)
 
--- how many closing parentheses of a text have no opening one in it
+-- the number of closing parentheses of a text without an opening one in it
 abbrev pub unopened : List ℕ → ℕ
 unopened [] = 0
 unopened (b ∷ text) = unopened_by b (unopened text)
@@ -23,13 +23,13 @@ last_opening [] = None
 last_opening (b ∷ text) =
     later_or_here (last_opening text) ((b == 40) && (unopened text == 1))
 
--- what stands before a place; the whole name without a place, and where nothing stands before it
+-- the text before a place; the whole name without a place, and where nothing stands before it
 abbrev pub front_or_whole : List ℕ → Option ℕ → List ℕ
 front_or_whole name None = name
 front_or_whole name (Some zero) = name
 front_or_whole name (Some (suc place)) = take (suc place) name
 
--- a name without its arguments and what follows them: what stands before the parenthesis that its
+-- a name without its arguments and the text after them: the text before the parenthesis that its
 -- last one closes
 abbrev pub without_arguments : List ℕ → List ℕ
 without_arguments name = front_or_whole name (last_opening name)

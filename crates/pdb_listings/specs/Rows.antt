@@ -14,7 +14,7 @@ field_text formats.Text field = plain_field field
 field_text formats.Csv field = csv_field field
 field_text formats.Json field = json_field field
 
--- what stands before a field after the first: a comma, but for people nothing
+-- the text before a field after the first: a comma, but for people nothing
 abbrev pub separator_text : Format → List ℕ
 separator_text formats.Text = []
 separator_text formats.Csv = codes ","
@@ -29,13 +29,13 @@ abbrev pub fields_text : Format → List Field → List ℕ
 fields_text format [] = []
 fields_text format (field ∷ fields) = field_text format field ++ flat_map (later_text format) fields
 
--- what stands before the fields of a row
+-- the text before the fields of a row
 abbrev pub opening_text : Format → List ℕ
 opening_text formats.Text = []
 opening_text formats.Csv = []
 opening_text formats.Json = codes "{"
 
--- what stands after them
+-- the text after the fields of a row
 abbrev pub closing_text : Format → List ℕ
 closing_text formats.Text = codes "\n"
 closing_text formats.Csv = codes "\n"

@@ -34,8 +34,8 @@ abbrev pub line_in : Option FunctionFrames → Option Line
 line_in None = None
 line_in (Some found) = option_map line_of (slice_get found.frames 0)
 
--- the line at an address, as frames say: that of the innermost one; none where there is no
--- function, and where frames can't be read
+-- the line at an address, as frames say: the innermost frame's; none where there is no function,
+-- and where frames can't be read
 abbrev pub line_at : {P : Type 0} → (P → Provided) → Context P → ℕ → Option Line
 line_at provided c a = line_in (readable (frames c.parts (scope_in provided c) a))
 
@@ -48,7 +48,7 @@ counted_line provided c a =
 abbrev pub line_seen : LineFound → Line
 line_seen l = record { file = option_map string_bytes l.file; line = l.line }
 
--- The line that was found is that of so many addresses from one on, as they are counted.
+-- The line that was found is the line of so many addresses from one on, as they are counted.
 abbrev pub IsLineRun : {P : Type 0} → (P → Provided) → Context P → ℕ → Option LineFound × ℕ → Type 0
 IsLineRun provided c a run = (k : ℕ) → k < run.1
     → counted_line provided c (a + k) ≡ option_map line_seen run.0

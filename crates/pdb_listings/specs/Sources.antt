@@ -1,4 +1,4 @@
--- Source files of a module, and what is said of them by their stored checksums.
+-- Source files of a module, and bytes that have their stored checksums.
 use Rattle.std.specs.Prelude.{◌≡◌, ◌++◌, ℕ, List, [], ◌∷◌, Option, None, Some, Result, Ok, Err}
 use Rattle.std.specs.Prelude.{map, string_bytes}
 use Rattle.std.specs.Global.{Vec}
@@ -47,12 +47,12 @@ abbrev pub source_list : Option SourceFile → List Source
 source_list None = []
 source_list (Some s) = source_seen s ∷ []
 
--- the source of a file, by its path; none where that can't be read
+-- the source of a file, from its path; none where the path can't be read
 abbrev pub source_by : File → Result (List ℕ) Fault → List Source
 source_by f (Ok name) = record { path = utf8_lossy name; sum = f.checksum } ∷ []
 source_by f (Err e) = []
 
--- the source of a file of a module's list, by the names of the string table
+-- the source of a file of a module's list, from the names of the string table
 abbrev pub source_of : List ℕ → File → List Source
 source_of names f = source_by f (name_in names f.name)
 
@@ -60,7 +60,7 @@ source_of names f = source_by f (name_in names f.name)
 abbrev pub sources_by : List ℕ → List File → List Source
 sources_by names files = flat_map (source_of names) files
 
--- the sources of a module, by its line program; none where that can't be read
+-- the sources of a module, from its line program; none where the line program can't be read
 abbrev pub sources_of : List ℕ → Result Program Fault → List Source
 sources_of names (Ok program) = sources_by names (files_of program.files).items
 sources_of names (Err e) = []

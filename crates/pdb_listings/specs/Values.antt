@@ -35,7 +35,7 @@ plain_value (values.Text text) = text.now
 abbrev pub padded : ℕ → List ℕ → List ℕ
 padded width text = repeat (width - length text) (codes " ") ++ text
 
--- a text in a field, after what stands before it
+-- a text in a field, after the text before it
 abbrev pub plain_text : List ℕ → ℕ → List ℕ → List ℕ
 plain_text before width text = before ++ padded width text
 
@@ -43,7 +43,7 @@ plain_text before width text = before ++ padded width text
 abbrev pub is_special : ℕ → Bool
 is_special b = (b == 34) || ((b == 44) || ((b == 10) || (b == 13)))
 
--- what stands for a byte between quotes: a quote is doubled
+-- the text of a byte between quotes: a quote is doubled
 abbrev pub doubled : ℕ → List ℕ
 doubled b = if b == 34 then 34 ∷ 34 ∷ [] else b ∷ []
 

@@ -1,4 +1,4 @@
-//! What changed between the sizes of two databases.
+//! The changes between the sizes of two databases.
 
 ghost use Rattle.std.specs.Prelude.{◌≡◌, ◌+◌, ◌||◌, false, true, IfOk, OnOk, string_bytes};
 ghost use Rattle.pdb_listings.specs.Sizes.{HadBytes, HadIf, HadMore, HadSame, HasIf, HaveBytes};
@@ -8,7 +8,7 @@ use crate::sizes::Size;
 use std::alloc::{AllocError, Global};
 use std::cmp::Ordering;
 
-/// How many bytes a name had, and how many it has.
+/// The change of a name: the bytes that it had, and the bytes that it has.
 #[derive(Drop)]
 pub struct Change {
     /// The name.
@@ -20,7 +20,7 @@ pub struct Change {
 }
 
 impl Change {
-    /// Whether it grew, and by how many bytes it grew or shrank.
+    /// Whether the name grew, and the number of bytes by which it grew or shrank.
     pub fn difference(&self) -> (bool, u64)
         ensures grew { result.0 ≡ true → self.now.old + result.1 ≡ self.now.new }
         ensures shrank { result.0 ≡ false → self.now.new + result.1 ≡ self.now.old }
@@ -61,7 +61,7 @@ fn came(alloc: Global, size: &Size) -> Result<Change, AllocError>
     named_change(alloc, size.name.as_str(), 0, size.bytes)
 }
 
-/// The change of a name that both have.
+/// The change of a name that both lists have.
 #[tactic(auto, using(crate::proofs::Sums::old_as, crate::proofs::Sums::new_as))]
 fn stayed(alloc: Global, old: &Size, new: &Size) -> Result<Change, AllocError>
     requires { string_bytes old.now.name ≡ string_bytes new.now.name }
@@ -116,7 +116,7 @@ fn change_at(alloc: Global, old: &Size, new: &Size) -> Result<(Change, bool, boo
 pub fn changes_of(alloc: Global, old: &[Size], new: &[Size]) -> Result<Vec<Change>, AllocError>
     ensures old { IfOk result (λ changes. HadBytes old.now changes.items) }
     ensures new { IfOk result (λ changes. HaveBytes new.now changes.items) }
-    // What all have, less what they had, is the new total less the old one.
+    // The bytes that all have, less the bytes that they had, are the new total less the old one.
     ensures total { IfOk result (λ changes. IsDifference old.now new.now changes.items) }
 {
     let mut changes = Vec::new(alloc);

@@ -1,4 +1,4 @@
-//! Which compiler made a module.
+//! The compiler that made a module.
 
 use pdb_container::{FallibleIterator, half_at, nul_in};
 use pdb_symbols_modules::{ModuleInfo, Symbol, SymbolIter};
@@ -10,7 +10,8 @@ const S_COMPILE2: u16 = 0x1116;
 /// The kind of a record of the compiler, with four numbers in each version (`S_COMPILE3`).
 const S_COMPILE3: u16 = 0x113c;
 
-/// How many symbols are looked at: a compiler's record stands among a module's first ones.
+/// The number of symbols that are looked at: a compiler's record stands among a module's first
+/// ones.
 const FIRST_SYMBOLS: usize = 16;
 
 /// The numbers of a version, with points between them.
@@ -44,7 +45,7 @@ fn has_digit(text: &[u8]) -> bool {
 /// The compiler of a record, after its kind, in which a version has so many bytes: its name, with
 /// its version where the name has no digit.
 fn compiler_in(alloc: Global, bytes: &[u8], version: usize) -> Result<Option<String>, AllocError> {
-    // Flags, a machine, and the version of the compiler's front stand before that of the compiler.
+    // Flags, a machine, and the version of the compiler's front stand before the compiler's own.
     let start = version.saturating_add(6);
     let end = start.saturating_add(version);
     let Some(numbers) = bytes.get(start..end) else {

@@ -23,7 +23,7 @@ fn is_quoted(text: &[u8]) -> bool
     text.iter().any(|byte| is_special(*byte))
 }
 
-/// Appends what stands for a byte between quotes.
+/// Appends the text of a byte between quotes.
 fn append_doubled(output: &mut Vec<u8>, byte: u8) -> Result<(), AllocError>
     ensures { OnOk result (output.new.items ≡ output.old.items ++ doubled_byte byte) }
 {
@@ -33,7 +33,7 @@ fn append_doubled(output: &mut Vec<u8>, byte: u8) -> Result<(), AllocError>
     output.extend_from_slice(&[byte])
 }
 
-/// Appends what stands for bytes between quotes.
+/// Appends the text of bytes between quotes.
 #[tactic(auto, using(json_strings::proofs::Lists::text_more, json_strings::proofs::Lists::text_all))]
 fn append_bytes(output: &mut Vec<u8>, text: &[u8]) -> Result<(), AllocError>
     ensures { OnOk result (output.new.items ≡ output.old.items ++ flat_map doubled_byte text.now) }

@@ -58,7 +58,7 @@ fn outermost<'f, 'a>(found: &'f Option<FunctionFrames<'a>>) -> Option<&'f Frame<
     }
 }
 
-/// What was found; nothing where it can't be read.
+/// The frames that were found; none where they can't be read.
 fn if_readable<'a>(found: FoundFrames<'a>) -> Result<Option<FunctionFrames<'a>>, AllocError>
     ensures { (read : FramesRead) → Answers (λ f. f) found.entry read
         → IfOk result (HaveOwnFrame read) }
@@ -94,7 +94,7 @@ fn row_of(
     })
 }
 
-/// The frames at an address; nothing where they can't be read.
+/// The frames at an address; none where they can't be read.
 fn frames_found<'a, P: ModuleProvider>(
     alloc: Global,
     context: &mut Context<'a, '_, P>,
@@ -107,8 +107,8 @@ fn frames_found<'a, P: ModuleProvider>(
     if_readable(context.find_frames(alloc, address))
 }
 
-/// A function with the place at its start, by the frames there; none of it is known where they
-/// can't be read.
+/// A function with the place at its start, from the frames there; none of the place is known where
+/// the frames can't be read.
 fn row_at_start<P: ModuleProvider>(
     alloc: Global,
     context: &mut Context<'_, '_, P>,

@@ -8,7 +8,8 @@ use pdb_owners::{CountedFile, FileKey, FunctionKey, Runs};
 use pdb_resolving::ModuleProvider;
 use std::alloc::{AllocError, Global};
 
-/// A context that is asked for runs of functions, and how often one was made of a key.
+/// A context that is asked for runs of functions, and the number of times that a key's function was
+/// asked for.
 #[derive(Drop)]
 pub(crate) struct FunctionRuns<'a, 's, P: ModuleProvider> {
     pub(crate) context: Context<'a, 's, P>,
@@ -65,7 +66,8 @@ impl<'a, 's, P: ModuleProvider> Runs for FunctionRuns<'a, 's, P> {
     }
 }
 
-/// A context that is asked for runs of source files, and how often one was made of a key.
+/// A context that is asked for runs of source files, and the number of times that a key's file was
+/// asked for.
 #[derive(Drop)]
 pub(crate) struct FileRuns<'a, 's, P: ModuleProvider> {
     pub(crate) context: Context<'a, 's, P>,

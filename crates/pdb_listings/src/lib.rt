@@ -1,12 +1,11 @@
-//! What a database has, as rows: the bytes of its modules, its source files, functions with their
-//! places, over how many addresses a line goes on, and sizes by name with the change between two
-//! databases; and the texts that stand for rows: lines for people, in which numbers are aligned,
-//! CSV, and JSON Lines.
+//! The content of a database, as rows: the bytes of its modules, its source files, functions with
+//! their places, the number of addresses over which a line goes on, and sizes by name with the
+//! change between two databases; and the texts that stand for rows: lines for people, in which
+//! numbers are aligned, CSV, and JSON Lines.
 //!
 //! A row is a list of [`Field`]s, and each names its column. Forms of rows may gain values, and a
-//! listing columns at its end; what is there may not change. What is stored on the way may change.
-//! What is listed and counted of a context is stated by its answers, address by address, and may
-//! not.
+//! listing columns at its end; present ones may not change. Data stored on the way may change. The
+//! lists and counts of a context are stated by its answers, address by address, and may not.
 //!
 //! | to | call |
 //! |---|---|

@@ -68,8 +68,9 @@ fn becomes_last(map: &AddressMap<'_>, address: u32) -> bool
     }
 }
 
-/// The place of an address, if it has one, and over how many addresses from there on and before
-/// `end` places follow one another, or are missing. An address that becomes 0xffffffff has none.
+/// The place of an address, if it has one, and the number of addresses from there on and before
+/// `end` over which places follow one another, or are missing. An address that becomes 0xffffffff
+/// has no place.
 #[tactic(auto, using(crate::proofs::PlaceRuns::last_run, crate::proofs::PlaceRuns::other_run))]
 fn counted_run(
     map: &AddressMap<'_>,
@@ -89,9 +90,9 @@ fn counted_run(
     (place, count)
 }
 
-/// The line at an address, if it has one, and over how many addresses from there on and before
-/// `end` it is the same at least. An address that becomes 0xffffffff has none. `map` is that of the
-/// context.
+/// The line at an address, if it has one, and the number of addresses from there on and before
+/// `end` over which it is the same, at least. An address that becomes 0xffffffff has no line. `map`
+/// is the context's.
 ///
 /// # Errors
 /// `AllocError` when memory runs out.

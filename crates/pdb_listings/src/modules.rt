@@ -17,7 +17,7 @@ use pdb_symbols_modules::DBISectionContribution;
 use std::alloc::{AllocError, Global};
 use std::cmp::Ordering;
 
-/// What a contribution is, by what may be done in its section.
+/// The part to which a contribution belongs, by what may be done in its section.
 #[derive(Clone, Copy)]
 pub enum Part {
     /// Code, or what may run.
@@ -31,7 +31,7 @@ pub enum Part {
 }
 
 impl Part {
-    /// Its number, counted from 0 in the order above.
+    /// The part's number, counted from 0 in the order above.
     fn number(self) -> u8
         ensures { result ≡ part_number self }
     {
@@ -53,7 +53,7 @@ pub struct ModulePart {
     pub part: Part,
 }
 
-/// Two are equal where module and part are.
+/// Two parts of modules are equal where module and part are.
 impl PartialEq for ModulePart {
     ghost eq = { is_same part_cmp };
 
@@ -68,7 +68,7 @@ impl Eq for ModulePart {
     ghost laws = { eq_by_cmp_equiv part_total };
 }
 
-/// By module, and then in the order of the parts.
+/// The order by module, and then by the number of the part.
 impl PartialOrd for ModulePart {
     ghost partial_cmp = { λ a b. Some (part_cmp a b) };
 
@@ -79,7 +79,7 @@ impl PartialOrd for ModulePart {
     }
 }
 
-/// By module, and then in the order of the parts.
+/// The order by module, and then by the number of the part.
 impl Ord for ModulePart {
     ghost cmp = { part_cmp };
 
@@ -95,14 +95,14 @@ impl Ord for ModulePart {
     }
 }
 
-/// Two that compare as equal are one.
+/// Two parts of modules that compare as equal are one.
 impl Countable for ModulePart {
     ghost exact = { part_exact };
 }
 
-/// What a contribution to a section with these characteristics is: code where they have
-/// `IMAGE_SCN_CNT_CODE` or `IMAGE_SCN_MEM_EXECUTE`, else zeroed where they have
-/// `IMAGE_SCN_CNT_UNINITIALIZED_DATA`, else written where they have `IMAGE_SCN_MEM_WRITE`.
+/// The part of a contribution to a section with these characteristics: code where they have
+/// `IMAGE_SCN_CNT_CODE` or `IMAGE_SCN_MEM_EXECUTE`, otherwise zeroed where they have
+/// `IMAGE_SCN_CNT_UNINITIALIZED_DATA`, otherwise written where they have `IMAGE_SCN_MEM_WRITE`.
 pub fn part_of(characteristics: SectionCharacteristics) -> Part
     ensures { result ≡ part_by characteristics.0 }
 {
@@ -128,7 +128,7 @@ fn module_part(contribution: &DBISectionContribution) -> ModulePart
     }
 }
 
-/// How many bytes each part of a module contributes; a part without a byte isn't there.
+/// The number of bytes that each part of a module contributes; a part without a byte isn't there.
 ///
 /// # Errors
 /// `AllocError` when memory runs out.
@@ -137,7 +137,7 @@ pub fn module_sizes(
     contributions: &[DBISectionContribution],
 ) -> Result<Counts<ModulePart>, AllocError>
     requires { length contributions.now < 2 ^ 32 }
-    // The bytes of the parts that pass a test are those of their contributions.
+    // The bytes of the parts that pass a test are the bytes of their contributions.
     ensures each { IfOk result (HasContributions contributions.now) }
     // All of them together are the bytes of all contributions.
     ensures total { IfOk result (λ table. sum_of table ≡ sum_by (λ c. c.size) contributions.now) }
@@ -149,7 +149,7 @@ pub fn module_sizes(
     Ok(table)
 }
 
-/// Adds the bytes of a contribution to those of its module's part.
+/// Adds the bytes of a contribution to the bytes of its module's part.
 fn add_contribution(
     table: &mut Counts<ModulePart>,
     contribution: &DBISectionContribution,

@@ -27,7 +27,7 @@ impl Model for Named {
     ghost view = { λ n. string_bytes n.name };
 }
 
-/// Two are equal where their bytes are.
+/// Two names are equal where their bytes are.
 impl PartialEq for Named {
     ghost eq = { is_same (slice_cmp nat_cmp) };
 
@@ -42,7 +42,7 @@ impl Eq for Named {
     ghost laws = { eq_by_cmp_equiv nat_list_cmp_total };
 }
 
-/// By their bytes.
+/// The order of names by their bytes.
 impl PartialOrd for Named {
     ghost partial_cmp = { λ a b. Some (slice_cmp nat_cmp a b) };
 
@@ -53,7 +53,7 @@ impl PartialOrd for Named {
     }
 }
 
-/// By their bytes.
+/// The order of names by their bytes.
 impl Ord for Named {
     ghost cmp = { slice_cmp nat_cmp };
 
@@ -68,7 +68,7 @@ impl Ord for Named {
     }
 }
 
-/// Two that compare as equal are one.
+/// Two names that compare as equal are one.
 impl Countable for Named {
     ghost exact = { name_exact };
 }

@@ -17,7 +17,8 @@ fn is_named(alloc: Global, row: &FunctionRow, asked: &[u8]) -> Result<bool, Allo
     }
 }
 
-/// Which functions have a name: as it is stored or undecorated, whole or without arguments.
+/// For each function, whether it has a name: as it is stored or undecorated, whole or without
+/// arguments.
 ///
 /// # Errors
 /// `AllocError` when memory runs out.

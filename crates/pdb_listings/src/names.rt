@@ -9,8 +9,8 @@ ghost use Rattle.pdb_listings.specs.Names.{without_arguments as front_of};
 use msvc_demangler::{Demangled, SHORT_TEXT, demangle};
 use std::alloc::{AllocError, Global};
 
-/// How many closing parentheses have no opening one from a byte on, where so many after it have
-/// none.
+/// The number of closing parentheses without an opening one from a byte on, where `after` is the
+/// number from the next byte on.
 fn unopened_by(byte: u8, after: usize) -> usize
     requires { after < 2 ^ 63 }
     ensures { result ≡ unopened_from byte after }
@@ -39,8 +39,8 @@ fn last_opening(text: &[u8]) -> Option<usize>
     None
 }
 
-/// A name without its arguments and what follows them: what stands before the parenthesis that its
-/// last one closes. The whole name where that is nothing, or there is none.
+/// A name without its arguments and the text after them: the text before the parenthesis that its
+/// last one closes. The whole name where this text is empty, or there is no such parenthesis.
 pub fn without_arguments(name: &[u8]) -> &[u8]
     ensures { result.now ≡ front_of name.now }
 {
@@ -57,14 +57,14 @@ pub fn is_called(name: &[u8], asked: &[u8]) -> bool
     name == asked || without_arguments(name) == asked
 }
 
-/// Whether a name is decorated as those of Visual C++ are: whether it begins with a question mark.
+/// Whether a name is decorated as names of Visual C++ are: whether it begins with a question mark.
 pub fn is_decorated(name: &[u8]) -> bool
     ensures { result ≡ decorated name.now }
 {
     name.first() == Some(&b'?')
 }
 
-/// Whether a function of a name is called so: by that name or, where it is decorated, by the
+/// Whether a function of a name is called `asked`: by its name or, where this is decorated, by the
 /// undecorated one, whole or without arguments.
 ///
 /// # Errors
@@ -86,7 +86,7 @@ pub fn has_name(alloc: Global, name: &[u8], asked: &[u8]) -> Result<bool, AllocE
     }
 }
 
-/// A name as it is listed: undecorated, if that is asked for and it is decorated.
+/// A name as it is listed: undecorated, if this is asked for and the name is decorated.
 ///
 /// # Errors
 /// `AllocError` when memory runs out.

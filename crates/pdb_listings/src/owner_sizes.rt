@@ -103,8 +103,8 @@ fn name_files<P: ModuleProvider>(
     Ok(table)
 }
 
-/// The bytes of functions from `start` on and before `end`, by the functions' names: how many
-/// addresses there have a function of the name. `??` stands for those without one.
+/// The bytes of functions from `start` on and before `end`, by the functions' names: the number of
+/// addresses there that have a function of the name. `??` stands for functions without a name.
 ///
 /// # Errors
 /// `AllocError` when memory runs out.
@@ -128,8 +128,8 @@ pub fn function_sizes<P: ModuleProvider>(
 }
 
 /// The bytes of source files from `start` on and before `end`, by their paths or by their folders:
-/// how many addresses there have a function that begins in the file. `(no file)` stands for
-/// functions without a known file, and `(unreadable)` for those whose frames can't be read.
+/// the number of addresses there that have a function that begins in the file. `(no file)` stands
+/// for functions without a known file, and `(unreadable)` for those whose frames can't be read.
 ///
 /// # Errors
 /// `AllocError` when memory runs out.

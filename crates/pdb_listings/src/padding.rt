@@ -13,16 +13,17 @@ use pdb_resolving::ModuleProvider;
 use pdb_symbols_modules::DBISectionContribution;
 use std::alloc::{AllocError, Global};
 
-/// What bytes count for: a function, and the last offset in the section at which it was found, or,
-/// of a public entry, at which it begins.
+/// The function for which bytes count, and the last offset in the section at which it was found,
+/// or, of a public entry, at which it begins.
 #[derive(Clone, Copy)]
 struct Owner {
     key: FunctionKey,
     last: u32,
 }
 
-/// What the last of so many bytes from an offset on count for, by the key of all of them and by
-/// what the byte before them counts for. A public entry that begins no later than that goes by it.
+/// The owner of the last of `count` bytes from an offset on, from the key of all of them and the
+/// owner of the byte before them. The owner stays where there is no key, or the key of a public
+/// entry that begins no later than the owner's last offset.
 fn owner_after(
     before: Option<Owner>,
     key: Option<FunctionKey>,
@@ -52,7 +53,7 @@ fn has_room(keys: &Counts<FunctionKey>, size: u32) -> bool
     keys.total() <= u64::MAX - u64::from(size)
 }
 
-/// Counts the bytes of a contribution by function. One that has no procedure counts for the last
+/// Counts the bytes of a contribution by function. A byte that has no procedure counts for the last
 /// function before it in the contribution, if there is one.
 fn count_joined<P: ModuleProvider>(
     alloc: Global,
@@ -84,8 +85,8 @@ fn count_joined<P: ModuleProvider>(
 }
 
 /// The bytes of functions by their names, where padding counts: a byte of a contribution counts for
-/// the function that it has. One without a procedure counts for the last function before it in the
-/// contribution: a procedure, or a public entry that begins after it.
+/// the function that it has. A byte without a procedure counts for the last function before it in
+/// the contribution: a procedure, or a public entry that begins after it.
 ///
 /// # Errors
 /// `AllocError` when memory runs out.

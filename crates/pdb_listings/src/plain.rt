@@ -28,7 +28,7 @@ fn append_blanks(output: &mut Vec<u8>, count: usize) -> Result<(), AllocError>
     Ok(())
 }
 
-/// Appends a text after what stands before it, and after blanks up to a width.
+/// Appends `before`, blanks up to a width, and a text.
 fn append_padded(
     output: &mut Vec<u8>,
     before: &str,

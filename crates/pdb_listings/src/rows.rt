@@ -24,7 +24,7 @@ pub enum Format {
 }
 
 impl Format {
-    /// What stands before the fields of a row.
+    /// The text before the fields of a row.
     fn opening(self) -> &'static str
         ensures { result.now ≡ opening_text self }
     {
@@ -34,7 +34,7 @@ impl Format {
         }
     }
 
-    /// What stands before each field after the first.
+    /// The text before each field after the first.
     fn separator(self) -> &'static str
         ensures { result.now ≡ separator_text self }
     {
@@ -44,7 +44,7 @@ impl Format {
         }
     }
 
-    /// What stands after the fields.
+    /// The text after the fields.
     fn closing(self) -> &'static str
         ensures { result.now ≡ closing_text self }
     {

@@ -12,7 +12,7 @@ use crate::named::Named;
 use pdb_owners::Counts;
 use std::alloc::{AllocError, Global};
 
-/// How many bytes a name has.
+/// A name with the number of its bytes.
 #[derive(Drop)]
 pub struct Size {
     /// The name.
@@ -42,7 +42,7 @@ pub fn add_bytes(
     table.add(Named { name }, bytes)
 }
 
-/// The folder of a path: what stands before its last slash or backslash; empty where it has none.
+/// The folder of a path: the text before its last slash or backslash; empty where it has none.
 #[tactic(auto, using(crate::proofs::Folders::folder_at, crate::proofs::Folders::no_folder))]
 pub fn folder_of(path: &str) -> &str
     ensures { result.now ≡ folder path.now }
@@ -68,7 +68,7 @@ fn last_separator(path: &[u8]) -> Option<usize>
     None
 }
 
-/// What a table has, in the order of its names.
+/// The sizes that a table has, in the order of its names.
 ///
 /// # Errors
 /// `AllocError` when memory runs out.
@@ -98,7 +98,7 @@ pub fn total_of(sizes: &[Size]) -> u64
     total
 }
 
-/// Puts the largest first. Those of one size stay in their order.
+/// Puts the largest sizes first. Equal sizes stay in their order.
 ///
 /// # Errors
 /// `AllocError` when memory runs out.

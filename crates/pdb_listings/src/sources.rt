@@ -1,4 +1,4 @@
-//! Source files of modules, and whether a file is the one that its module was built of.
+//! Source files of modules, and whether a file is the one from which its module was built.
 
 ghost use Rattle.std.specs.Prelude.{◌≡◌, ◌↔◌, IfOk, IfSome, IsSome, IsTrue, OnOk, string_bytes};
 ghost use Rattle.std.specs.Str.Lossy.{utf8_lossy};
@@ -37,7 +37,7 @@ pub struct SourceFile {
     pub sum: StoredSum,
 }
 
-/// What is said of a source file.
+/// The verdict on a source file.
 #[derive(Clone, Copy)]
 pub enum Verdict {
     /// A file has the stored checksum.
@@ -62,7 +62,7 @@ fn has_sum(sum: &StoredSum, bytes: &[u8]) -> bool
     }
 }
 
-/// What is said of a source file by its stored checksum and the bytes of a file, if there is one.
+/// The verdict on a source file, from its stored checksum and the bytes of a file, if there is one.
 pub fn verdict_of(sum: &StoredSum, bytes: Option<&[u8]>) -> Verdict
     // `Right` exactly where the digest of the bytes is the stored one.
     ensures right { (result ≡ Verdict.Right)
@@ -101,7 +101,7 @@ fn owned_path(alloc: Global, path: RawString<'_>) -> Result<String, AllocError>
     }
 }
 
-/// A source file with its path, if that can be read.
+/// A source file with its path, if the path can be read.
 fn source_of(
     alloc: Global,
     names: &StringTable<'_>,

@@ -1,4 +1,4 @@
-//! How many procedures and public symbols there are.
+//! The numbers of procedures and public symbols.
 
 ghost use Rattle.std.specs.Prelude.{◌≡◌};
 ghost use Rattle.pdb_listings.specs.Symbols.{GivesKind, count_after, kinds_left};
@@ -9,7 +9,7 @@ use pdb_container::FallibleIterator;
 use pdb_symbol_records::kinds::{is_procedure, is_public};
 use pdb_symbols_modules::SymbolIter;
 
-/// How many procedures and public symbols were counted.
+/// The numbers of procedures and public symbols that were counted.
 #[derive(Clone, Copy, Default)]
 pub struct SymbolCounts {
     /// Procedures.

@@ -3,7 +3,7 @@
 /// A value of a row.
 #[derive(Clone, Copy)]
 pub enum Value<'v> {
-    /// It isn't known.
+    /// A value that isn't known.
     Unknown,
     /// A number, in decimal digits.
     Number(u64),
@@ -22,9 +22,9 @@ pub enum Value<'v> {
 pub struct Column {
     /// Its name.
     pub name: &'static str,
-    /// What stands before a value in a line for people.
+    /// The text before a value in a line for people.
     pub before: &'static str,
-    /// How many bytes a value has in such a line at least: blanks before it fill it up.
+    /// The least number of bytes of a value in such a line: blanks before it fill it up.
     pub width: usize,
 }
 

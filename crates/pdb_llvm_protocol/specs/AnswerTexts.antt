@@ -12,7 +12,7 @@ use Rattle.pdb_llvm_protocol.specs.declared.options.TextOptions.{TextOptions}
 abbrev pub unknown : ReportedFrame
 unknown = record { function = None; file = None; line = 0; column = 0 }
 
--- how deep an answer's object stands
+-- the depth of an answer's object
 abbrev pub depth_of : TextOptions → ℕ
 depth_of o = if o.in_array then 1 else 0
 
@@ -26,11 +26,11 @@ address_member o (Some a) =
 unfoldable pub module_member : TextOptions → List ℕ → List ℕ
 module_member o m = string_member o.pretty (depth_of o + 1) (codes "ModuleName") m
 
--- how an answer's object begins
+-- the start of an answer's object
 unfoldable pub start_text : TextOptions → Option ℕ → List ℕ
 start_text o a = codes "{" ++ address_member o a
 
--- how an answer's object ends: without an array a newline stands after it
+-- the end of an answer's object: without an array a newline stands after it
 unfoldable pub end_text : TextOptions → List ℕ
 end_text o = gap o.pretty (depth_of o) ++ (if o.in_array then codes "}" else codes "}\n")
 

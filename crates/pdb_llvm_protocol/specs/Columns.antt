@@ -35,8 +35,8 @@ is_later offset (Some found) row =
 abbrev pub found_with : ℕ → Option LineInfo → LineInfo → Option LineInfo
 found_with offset found row = if is_later offset found row then Some row else found
 
--- Of the rows that begin at an offset or before it the one with the greatest start, of equals the
--- last, where one was found before them.
+-- The row with the greatest start, of equals the last, of the rows that begin at an offset or
+-- before it, where one was found before them.
 abbrev pub found_among : ℕ → Option LineInfo → List LineInfo → Option LineInfo
 found_among offset found [] = found
 found_among offset found (row ∷ rows) = found_among offset (found_with offset found row) rows
@@ -46,18 +46,18 @@ abbrev pub column_of : Option LineInfo → Option ℕ
 column_of None = None
 column_of (Some row) = row.column_start
 
--- the column by rows that have to be there to their end, where a row was found before them
+-- the column from rows that have to be there to their end, where a row was found before them
 abbrev pub column_onto : ℕ → Option LineInfo → Listing LineInfo → Result (Option ℕ) Fault
 column_onto offset found left =
     whole left >>= λ rows. Ok (column_of (found_among offset found rows))
 
--- The column of an offset in the function that begins at a place: that of the row that gives its
--- line.
+-- The column of an offset in the function that begins at a place: the column of the row that gives
+-- its line.
 abbrev pub column_for : Program → PdbInternalSectionOffset → ℕ → Result (Option ℕ) Fault
 column_for p start offset = column_onto offset None (lines_for p start)
 
--- A column is that of the row that gives the line of an offset in the function that begins at a
--- place.
+-- A column is the column of the row that gives the line of an offset in the function that begins at
+-- a place.
 pub record IsOfLine (p : Program) (start : PdbInternalSectionOffset) (offset : ℕ)
     (column : Option ℕ) : Type 0 where
   pub row : Option LineInfo

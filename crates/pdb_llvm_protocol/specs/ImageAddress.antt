@@ -1,8 +1,8 @@
--- Where an address lies in its image.
+-- The RVA of an address in its image.
 use Rattle.std.specs.Prelude.{ℕ, ◌+◌, ◌-◌, ◌%◌, ◌^◌, nat_lt, if◌then◌else◌, Bool, Option}
 use Rattle.std.specs.Prelude.{None, Some}
 
--- how far an address lies after the start of an image, modulo 2^64
+-- the distance of an address from the start of an image, modulo 2^64
 abbrev pub offset_from : ℕ → ℕ → ℕ
 offset_from start address = (2 ^ 64 + address - start) % 2 ^ 64
 

@@ -13,7 +13,7 @@ digit n = if nat_lt n 10 then 48 + n else 87 + n
 abbrev pub control_text : ℕ → List ℕ
 control_text b = codes "\\u00" ++ digit (b / 16) ∷ digit (b % 16) ∷ []
 
--- what stands for a byte in a string: quotes, backslashes and control characters are escaped
+-- the text of a byte in a string: quotes, backslashes and control characters are escaped
 abbrev pub escaped : ℕ → List ℕ
 escaped b =
     if b == 34 then codes "\\\""
@@ -32,7 +32,7 @@ string_text bytes = 34 ∷ flat_map escaped bytes ++ 34 ∷ []
 abbrev pub indent : ℕ → List ℕ
 indent depth = repeat depth (codes "  ")
 
--- what stands before a member or an element at a depth: nothing, or a line's end and its indent
+-- the text before a member or an element at a depth: empty, or a line's end and its indent
 abbrev pub gap : Bool → ℕ → List ℕ
 gap pretty depth = if pretty then 10 ∷ indent depth else []
 
@@ -57,13 +57,13 @@ place_members p d f =
     ++ key p d (codes "Discriminator") ++ codes "0,"
     ++ string_member p d (codes "FileName") (text_or_none f.file) ++ codes ","
 
--- its function's name, and its line
+-- the name of a frame's function, and the frame's line
 unfoldable pub function_members : Bool → ℕ → ReportedFrame → List ℕ
 function_members p d f =
     string_member p d (codes "FunctionName") (text_or_none f.function) ++ codes ","
     ++ key p d (codes "Line") ++ decimal f.line ++ codes ","
 
--- where its function starts, of which nothing is known
+-- the start of a frame's function, of which nothing is known
 unfoldable pub start_members : Bool → ℕ → List ℕ
 start_members p d =
     string_member p d (codes "StartAddress") [] ++ codes ","

@@ -1,4 +1,4 @@
--- What stands after the last colon of a file's name: an architecture, or an identity.
+-- The text after the last colon of a file's name: an architecture, or an identity.
 use Rattle.std.specs.Prelude.{ℕ, ◌-◌, ◌==◌, not, nat_eq, nat_le, nat_lt, ◌||◌, ◌&&◌}
 use Rattle.std.specs.Prelude.{if◌then◌else◌, Bool}
 use Rattle.std.specs.Prelude.{List, [], ◌∷◌, length, take, drop, position, unwrap_or, Option, None}
@@ -6,11 +6,11 @@ use Rattle.std.specs.Prelude.{Some, codes}
 use Rattle.std.specs.List.{list_any, starts_with, suffix_len}
 use Rattle.pdb_llvm_protocol.specs.Words.{are_hexadecimal}
 
--- how many bytes there are up to the last colon, that one included; 0 where there is none
+-- the number of bytes up to the last colon, which is included; 0 where there is none
 unfoldable pub after_colon : List ℕ → ℕ
 after_colon name = length name - suffix_len (λ b. not (b == 58)) name
 
--- what stands before the first hyphen, or all
+-- the part of a text before its first hyphen, or all of it
 unfoldable pub before_hyphen : List ℕ → List ℕ
 before_hyphen text = take (unwrap_or (position (λ b. b == 45) text) (length text)) text
 
@@ -29,7 +29,7 @@ is_arm text =
     list_any (is_text text) (codes "arm" ∷ codes "armv7" ∷ codes "thumb" ∷ codes "thumbv7"
     ∷ codes "aarch64" ∷ codes "arm64" ∷ codes "arm64ec" ∷ [])
 
--- one of them stands before the first hyphen
+-- one of these architectures stands before the first hyphen
 unfoldable pub is_architecture : List ℕ → Bool
 is_architecture text = let name = before_hyphen text in is_x86 name || is_arm name
 
@@ -43,7 +43,7 @@ file_without name =
 abbrev pub is_identity_length : ℕ → Bool
 is_identity_length n = nat_le 9 n && nat_le n 40
 
--- so many hexadecimal digits
+-- 9 to 40 hexadecimal digits
 unfoldable pub is_identity : List ℕ → Bool
 is_identity text = is_identity_length (length text) && are_hexadecimal text
 

@@ -25,14 +25,15 @@ value_from radix value (b ∷ bs) =
     option_and_then (λ d. value_from radix (value * radix + d) bs)
     (option_and_then (below radix) (digit_of b))
 
--- the radix by what follows a leading 0, and where the digits begin: 0x 0b 0o, or a digit
+-- the radix from the byte after a leading 0, and the place at which the digits begin: 0x 0b 0o, or
+-- a digit
 abbrev pub after_zero : ℕ → ℕ × ℕ
 after_zero b =
     if (b == 120) || (b == 88) then (16, 2)
     else (if (b == 98) || (b == 66) then (2, 2)
     else (if b == 111 then (8, 2) else (if is_digit b then (8, 0) else (10, 0))))
 
--- the radix of a word, and where its digits begin
+-- the radix of a word, and the place at which its digits begin
 abbrev pub prefix_of : List ℕ → ℕ × ℕ
 prefix_of word =
     if nat_le 2 (length word) && (slice_index word 0 == 48) then after_zero (slice_index word 1)

@@ -10,13 +10,13 @@ use Rattle.pdb_llvm_protocol.specs.declared.option_words.OptionWord.TheVariants 
 use Rattle.pdb_llvm_protocol.specs.declared.option_words.Setting.{Setting}
 use Rattle.pdb_llvm_protocol.specs.declared.option_words.Setting.TheVariants as settings
 
--- what a text stands for by a table, or else another value
+-- the value of a text in a table, or else another value
 abbrev pub named : {X : Type 0} → List (List ℕ × X) → Option X → List ℕ → Option X
 named [] other text = other
 named (entry ∷ rest) other text =
     if bytes_eq text entry.0 then Some entry.1 else named rest other text
 
--- options without values: of the program, and those that change nothing
+-- options without values: of the program, and options that change nothing
 abbrev pub program_words : List (List ℕ × Flag)
 program_words =
     (codes "--help", flags.Help) ∷ (codes "-h", flags.Help)
@@ -78,7 +78,7 @@ setting_words =
 unfoldable pub setting_of : List ℕ → Option Setting
 setting_of word = named setting_words None word
 
--- what a text begins with by a table, or else another value
+-- the value of the first text in a table that a text begins with, or else another value
 abbrev pub begun : {X : Type 0} → List (List ℕ × X) → Option X → List ℕ → Option X
 begun [] other text = other
 begun (entry ∷ rest) other text =
@@ -148,7 +148,7 @@ abbrev pub flag_or : List ℕ → Option Flag → OptionWord
 flag_or word (Some flag) = words.Flag flag
 flag_or word None = setting_or word (setting_of word)
 
--- what a word of the arguments is: an option has a dash, and more
+-- the kind of a word of the arguments: an option has a dash, and more
 unfoldable pub option_of : List ℕ → OptionWord
 option_of word =
     if not (starts_with nat_eq word (codes "-")) || (length word == 1) then words.Input

@@ -20,7 +20,7 @@ header_text o None = []
 header_text o (Some a) =
     if o.addresses then address_text a ++ (if o.pretty then codes ": " else codes "\n") else []
 
--- what says that a frame called the one before it
+-- the text that says that a frame called the one before it
 abbrev pub caller_text : Bool → Bool → List ℕ
 caller_text pretty is_caller = if pretty && is_caller then codes " (inlined by) " else []
 
@@ -41,7 +41,7 @@ name_text o is_caller f =
 abbrev pub number_line : List ℕ → ℕ → List ℕ
 number_line text number = text ++ decimal number ++ codes "\n"
 
--- what stands after the line: in the style LLVM the column
+-- the text after the line: in the style LLVM the column
 abbrev pub column_text : Style → ℕ → List ℕ
 column_text styles.Llvm column = number_line (codes ":") column
 column_text styles.Gnu column = codes "\n"
@@ -67,12 +67,12 @@ abbrev pub frames_text : TextOptions → List ReportedFrame → List ℕ
 frames_text o [] = []
 frames_text o (f ∷ fs) = frame_text o false f ++ flat_map (frame_text o true) fs
 
--- what ends an answer: in the style LLVM an empty line
+-- the end of an answer: in the style LLVM an empty line
 abbrev pub footer_text : Style → List ℕ
 footer_text styles.Llvm = codes "\n"
 footer_text styles.Gnu = []
 footer_text styles.Json = []
 
--- an answer: the address, what is known, and the end
+-- an answer: the address, a text, and the end
 abbrev pub plain_text : TextOptions → Option ℕ → List ℕ → List ℕ
 plain_text o a text = header_text o a ++ text ++ footer_text o.style

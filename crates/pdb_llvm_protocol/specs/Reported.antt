@@ -1,4 +1,4 @@
--- Which frames are reported of those that were found, and what of each.
+-- The frames that are reported of the frames that were found, and the parts of each.
 use Rattle.std.specs.Prelude.{ℕ, Bool, true, ◌+◌, ◌-◌, ◌==◌, nat_lt, nat_le, ◌&&◌, ◌||◌}
 use Rattle.std.specs.Prelude.{if◌then◌else◌, List, [], ◌∷◌, ◌++◌, length, take, drop, map}
 use Rattle.std.specs.Prelude.{Option, None, Some, option_map, unwrap_or}
@@ -14,12 +14,12 @@ use Rattle.pdb_llvm_protocol.specs.declared.reported.ReportOptions.{ReportOption
 abbrev pub is_separator : ℕ → Bool
 is_separator b = (b == 47) || (b == 92)
 
--- the name at the end of a path, where `name` is what stands after the last separator so far
+-- the name at the end of a path, where `name` is the text after the last separator so far
 abbrev pub name_from : List ℕ → List ℕ → List ℕ
 name_from name [] = name
 name_from name (b ∷ bs) = if is_separator b then name_from bs bs else name_from name bs
 
--- what stands after the last separator of a path
+-- the text after the last separator of a path
 abbrev pub base_name : List ℕ → List ℕ
 base_name path = name_from path path
 
@@ -91,7 +91,7 @@ abbrev pub asked_calls : ReportOptions → ℕ → ℕ → List Frame → List R
 asked_calls o start address calls =
     calls_asked o.asked (calls_at o.base_names start address calls)
 
--- of frames, innermost first, those that are asked for
+-- the frames that are asked for, of frames that are innermost first
 abbrev pub kept_asked : Asked → List ReportedFrame → List ReportedFrame
 kept_asked asked.All frames = frames
 kept_asked asked.Innermost frames = take 1 frames

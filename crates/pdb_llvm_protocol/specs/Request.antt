@@ -24,7 +24,7 @@ pub data AskedFile : Type 0 where
   Named : List ℕ → AskedFile
   BuildId : List ℕ → AskedFile
 
--- what a line asks for: a command, a file, and an address
+-- the request of a line: a command, a file, and an address
 pub record Request : Type 0 where
   pub command : Command
   pub file : AskedFile
@@ -45,7 +45,7 @@ abbrev pub Returns : Result LineRequest RequestFault → Result Request RequestF
 Returns (Ok r) reading = reading ≡ Ok (seen r)
 Returns (Err fault) reading = reading ≡ Err fault
 
--- the command that a line begins with before one space, and what comes after
+-- the command that a line begins with before one space, and the text after it
 unfoldable pub command_of : List ℕ → Command × List ℕ
 command_of line =
     if starts_with nat_eq line (codes "CODE ") then (Code, drop 5 line)
@@ -58,37 +58,37 @@ abbrev pub parted_at : List ℕ → Option ℕ → List ℕ × List ℕ
 parted_at text None = ([], text)
 parted_at text (Some end) = (take end text, drop (end + 1) text)
 
--- the name before a quote, and what comes after
+-- the name before a quote, and the text after it
 unfoldable pub quoted_of : ℕ → List ℕ → List ℕ × List ℕ
 quoted_of quote text = parted_at text (position (λ b. b == quote) text)
 
--- the name of a file, after a quote (" or ') or else a word, and what comes after
+-- the name of a file, after a quote (" or ') or else a word, and the text after it
 unfoldable pub file_of : List ℕ → List ℕ × List ℕ
 file_of text =
     let first = slice_index text 0 in
     if (first == 34) || (first == 39) then quoted_of first (drop 1 text)
     else (take (word_end text) text, drop (word_end text) text)
 
--- what stands before the file of a request: FILE:, BUILDID: or nothing, and what comes after
+-- the prefix before the file of a request: FILE:, BUILDID: or nothing, and the text after it
 unfoldable pub prefix_of : List ℕ → Prefix × List ℕ
 prefix_of text =
     if starts_with nat_eq text (codes "FILE:") then (prefixes.File, drop 5 text)
     else (if starts_with nat_eq text (codes "BUILDID:") then (prefixes.BuildId, drop 8 text)
     else (prefixes.Bare, text))
 
--- A call returned the file of a reading and what comes after it, or exactly its fault.
+-- A call returned the file of a reading and the text after it, or exactly its fault.
 abbrev pub Names : Result FileAndRest RequestFault → Result (AskedFile × List ℕ) RequestFault
     → Type 0
 Names (Ok named) reading = reading ≡ Ok (seen_file named.file, named.rest.now)
 Names (Err fault) reading = reading ≡ Err fault
 
--- what is wrong where nothing follows a prefix
+-- the fault where nothing follows a prefix
 abbrev pub empty_prefix_of : Prefix → RequestFault
 empty_prefix_of prefixes.BuildId = faults.EmptyHashPrefix
 empty_prefix_of prefixes.File = faults.EmptyFilePrefix
 empty_prefix_of prefixes.Bare = faults.EmptyFilePrefix
 
--- a name that isn't empty, and what comes after; else a fault
+-- a name that isn't empty, and the text after it; otherwise a fault
 abbrev pub named_or : RequestFault → List ℕ × List ℕ → Result (AskedFile × List ℕ) RequestFault
 named_or fault named = if length named.0 == 0 then Err fault else Ok (Named named.0, named.1)
 
@@ -103,7 +103,7 @@ after_prefix prefixes.BuildId text = hash_or faults.UnclosedQuotes (file_of text
 after_prefix prefixes.File text = named_or faults.UnclosedQuotes (file_of text)
 after_prefix prefixes.Bare text = named_or faults.UnclosedQuotes (file_of text)
 
--- the file after a prefix, and what comes after it
+-- the file after a prefix, and the text after it
 unfoldable pub prefixed_file_of : Prefix → List ℕ → Bool → Result (AskedFile × List ℕ) RequestFault
 prefixed_file_of prefix text file_given =
     if length text == 0 then Err (empty_prefix_of prefix)
@@ -119,7 +119,7 @@ is_bare prefixes.Bare = true
 is_bare prefixes.File = false
 is_bare prefixes.BuildId = false
 
--- the file of a request, and what comes after it
+-- the file of a request, and the text after it
 unfoldable pub given_file_of : List ℕ → Bool → Result (AskedFile × List ℕ) RequestFault
 given_file_of text file_given =
     let p = prefix_of (after_blanks text) in

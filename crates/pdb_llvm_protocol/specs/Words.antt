@@ -7,7 +7,7 @@ use Rattle.std.specs.List.{list_all, suffix_len}
 abbrev pub is_blank : ℕ → Bool
 is_blank b = (b == 32) || (nat_le 9 b && nat_le b 13)
 
--- what ends a word: a space, a newline or a carriage return, and no other blank
+-- a byte that ends a word: a space, a newline or a carriage return, and no other blank
 abbrev pub ends_word : ℕ → Bool
 ends_word b = (b == 32) || ((b == 10) || (b == 13))
 
@@ -19,7 +19,7 @@ after_blanks text = drop (unwrap_or (position (λ b. not (is_blank b)) text) (le
 unfoldable pub trimmed : List ℕ → List ℕ
 trimmed text = let from = after_blanks text in take (length from - suffix_len is_blank from) from
 
--- how many bytes come before the end of the first word
+-- the number of bytes before the end of the first word
 unfoldable pub word_end : List ℕ → ℕ
 word_end text = unwrap_or (position ends_word text) (length text)
 

@@ -33,7 +33,7 @@ fn append_control(output: &mut Vec<u8>, byte: u8) -> Result<(), AllocError>
     output.extend_from_slice(&[digit(byte / 16), digit(byte % 16)])
 }
 
-/// Appends what stands for a byte in a string.
+/// Appends the text of a byte in a string.
 fn append_escaped(output: &mut Vec<u8>, byte: u8) -> Result<(), AllocError>
     ensures { OnOk result (output.new.items ≡ output.old.items ++ escaped byte) }
 {
@@ -48,7 +48,7 @@ fn append_escaped(output: &mut Vec<u8>, byte: u8) -> Result<(), AllocError>
     }
 }
 
-/// Appends what stands for bytes in a string.
+/// Appends the text of bytes in a string.
 #[tactic(auto, using(crate::proofs::Lists::text_more, crate::proofs::Lists::text_all))]
 fn append_bytes(output: &mut Vec<u8>, bytes: &[u8]) -> Result<(), AllocError>
     ensures { OnOk result (output.new.items ≡ output.old.items ++ flat_map escaped bytes.now) }
@@ -80,7 +80,7 @@ fn append_indents(output: &mut Vec<u8>, depth: usize) -> Result<(), AllocError>
     Ok(())
 }
 
-/// Appends what stands before a member or an element at a depth.
+/// Appends the text before a member or an element at a depth.
 pub(crate) fn append_gap(output: &mut Vec<u8>, pretty: bool, depth: usize) -> Result<(), AllocError>
     ensures { OnOk result (output.new.items ≡ output.old.items ++ gap pretty depth) }
 {
@@ -107,7 +107,7 @@ pub(crate) fn append_key(
     append(output, after_key(pretty))
 }
 
-/// What stands after a member's name.
+/// The text after a member's name.
 fn after_key(pretty: bool) -> &'static str
     ensures { result.now ≡ (if pretty then codes "\": " else codes "\":") }
 {
@@ -189,7 +189,7 @@ fn append_place_members(
     Ok(())
 }
 
-/// Appends the members of a frame's function: its name, the line, and where it starts.
+/// Appends the members of a frame's function: its name, the line, and its start.
 #[tactic(auto, unfolding(crate::specs::Json::function_members))]
 fn append_function_members(
     output: &mut Vec<u8>,
@@ -208,7 +208,7 @@ fn append_function_members(
     Ok(())
 }
 
-/// Appends the members of where a function starts, of which nothing is known.
+/// Appends the members of a function's start, of which nothing is known.
 #[tactic(auto, unfolding(crate::specs::Json::start_members))]
 fn append_start_members(output: &mut Vec<u8>, pretty: bool, depth: usize) -> Result<(), AllocError>
     ensures { OnOk result (output.new.items ≡ output.old.items ++ start_members pretty depth) }

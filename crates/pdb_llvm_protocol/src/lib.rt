@@ -1,18 +1,19 @@
-//! What `llvm-symbolizer` 19 reads and writes. As it reads them: the words of its arguments, and
-//! lines of a command, a file, and an address, with where that lies in its image. As it writes
-//! them: the texts of answers.
+//! The input and the output of `llvm-symbolizer` 19. As it reads them: the words of its arguments,
+//! and lines of a command, a file, and an address, with the address's RVA in its image. As it
+//! writes them: the texts of answers.
 //!
-//! How a line is gone through, and how a text is put together, may change. What a line asks may
-//! not, nor any byte of a text, but to be what `llvm-symbolizer` 19 takes it for, or writes.
+//! The ways in which a line is gone through and a text is put together may change. The question of
+//! a line may not, nor any byte of a text, but to be what `llvm-symbolizer` 19 takes it for, or
+//! writes.
 //!
 //! Not read, beside `llvm-symbolizer`: the name of a symbol in place of an address, which is
 //! [`RequestFault::SymbolName`]. A carriage return ends a word, where `llvm-symbolizer` drops each
 //! one of a line: at the end of a line that is the same.
 //!
-//! Frames as they were found become frames as they are reported by [`report_frames`]. What is
-//! written of them is that of [`append_frames`], by [`TextOptions`]. Other calls (`append_error`,
-//! `append_no_data`, `append_no_locals`) write what stands for a request that has no frames. The
-//! column of a frame's line is that of the row that gives the line ([`column_for`]).
+//! [`report_frames`] makes frames as they are reported from frames as they were found.
+//! [`append_frames`] writes their text, by [`TextOptions`]. Other calls (`append_error`,
+//! `append_no_data`, `append_no_locals`) write the text of a request that has no frames. The column
+//! of a frame's line is the column of the row that gives the line ([`column_for`]).
 #![tactic(auto)]
 
 mod columns;

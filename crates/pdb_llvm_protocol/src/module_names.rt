@@ -1,4 +1,4 @@
-//! What stands after the last colon of a file's name: an architecture, or an identity.
+//! The text after the last colon of a file's name: an architecture, or an identity.
 
 ghost use Rattle.std.specs.Prelude.{◌≡◌, ◌≤◌, length, option_map};
 ghost use Rattle.pdb_llvm_protocol.specs.ModuleNames.{after_colon as after_colon_of};
@@ -12,7 +12,7 @@ ghost use Rattle.pdb_llvm_protocol.specs.ModuleNames.{is_x86 as is_x86_name};
 
 use crate::words::{are_hexadecimal, first_of};
 
-/// How many bytes there are up to the last colon, that one included; 0 where there is none.
+/// The number of bytes up to the last colon, which is included; 0 where there is none.
 #[tactic(auto, unfolding(crate::specs::ModuleNames::after_colon))]
 fn after_colon(name: &[u8]) -> usize
     ensures is { result ≡ after_colon_of name.now }
@@ -25,7 +25,7 @@ fn after_colon(name: &[u8]) -> usize
     end
 }
 
-/// What stands before the first hyphen of a text, or all of it.
+/// The part of a text before its first hyphen, or all of it.
 #[tactic(auto, unfolding(crate::specs::ModuleNames::before_hyphen))]
 fn before_hyphen(text: &[u8]) -> &[u8]
     ensures { result.now ≡ before_hyphen_of text.now }

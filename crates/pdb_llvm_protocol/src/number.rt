@@ -67,8 +67,8 @@ fn parse_digits(radix: u64, digits: &[u8]) -> Option<u64>
 }
 
 /// The number that a word stands for: hexadecimal after `0x` or `0X`, binary after `0b` or `0B`,
-/// octal after `0o` or after `0` before another digit, and else decimal. None if the word has no
-/// digits, or other bytes, or if the number is 2^64 or more.
+/// octal after `0o` or after `0` before another digit, and otherwise decimal. None if the word has
+/// no digits, or other bytes, or if the number is 2^64 or more.
 #[tactic(auto, unfolding(crate::specs::Number::number_of))]
 pub fn parse_number(word: &[u8]) -> Option<u64>
     ensures { result ≡ number_of word.now }

@@ -1,4 +1,4 @@
-//! The words of arguments: options, their values, and what is asked.
+//! The words of arguments: options, their values, and input.
 
 ghost use Rattle.std.specs.Prelude.{◌≡◌, ◌≤◌, length};
 ghost use Rattle.pdb_llvm_protocol.specs.OptionWords.{ending_setting_of, file_or_letters_of};
@@ -51,25 +51,25 @@ pub enum Setting {
     Database,
     /// A folder of databases and images by their identities.
     SymbolStore,
-    /// What is subtracted from each address.
+    /// The number that is subtracted from each address.
     AdjustVma,
-    /// Which names functions have.
+    /// The form of functions' names.
     Functions,
-    /// How answers are written.
+    /// The style of answers.
     OutputStyle,
-    /// How many lines of source are written.
+    /// The number of lines of source that are written.
     ContextLines,
     /// The build ID of the object of all addresses.
     BuildId,
-    /// How much may be cached: a number, which changes nothing.
+    /// The amount that may be cached: a number, which changes nothing.
     CacheSize,
-    /// Where symbols for Apple's systems are: a folder, which changes nothing.
+    /// The folder of symbols for Apple's systems, which changes nothing.
     DsymHint,
     /// An option that changes nothing for a PDB.
     Ignored,
 }
 
-/// What a word of the arguments is.
+/// The kind of a word of the arguments.
 #[derive(Clone, Copy)]
 pub enum OptionWord {
     /// No option: an address, or a line of input.
@@ -221,7 +221,7 @@ fn letter_of(byte: u8) -> Option<Flag>
     }
 }
 
-/// What a word is that begins with a dash and more, and that no table has.
+/// The kind of a word that begins with a dash and more, and that no table has.
 #[tactic(auto, unfolding(crate::specs::OptionWords::letters_of))]
 fn read_letters(word: &[u8]) -> OptionWord
     requires { 2 ≤ length word.now }
@@ -235,7 +235,7 @@ fn read_letters(word: &[u8]) -> OptionWord
     }
 }
 
-/// What a word is that begins with a dash and more, and that stands in no table as it is.
+/// The kind of a word that begins with a dash and more, and that stands in no table as it is.
 #[tactic(auto, unfolding(crate::specs::OptionWords::file_or_letters_of))]
 fn read_joined(word: &[u8]) -> OptionWord
     requires { 2 ≤ length word.now }
@@ -248,9 +248,9 @@ fn read_joined(word: &[u8]) -> OptionWord
     }
 }
 
-/// What a word of the arguments is. Options are those of `llvm-symbolizer`, and beside them
-/// `--pdb` and `--symbol-store`. A name has two dashes and a letter one; a value follows an equals
-/// sign, or is the next word; letters may stand together after one dash.
+/// The kind of a word of the arguments. Options are `llvm-symbolizer`'s, and beside them `--pdb`
+/// and `--symbol-store`. A name has two dashes and a letter one; a value follows an equals sign, or
+/// is the next word; letters may stand together after one dash.
 #[tactic(auto, unfolding(crate::specs::OptionWords::option_of))]
 pub fn read_option(word: &str) -> OptionWord
     ensures { result ≡ option_of word.now }

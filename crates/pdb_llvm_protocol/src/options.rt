@@ -1,17 +1,17 @@
-//! How answers are written.
+//! Options of the texts of answers.
 
 /// The style of answers.
 #[derive(Clone, Copy, PartialEq, Eq)]
 pub enum Style {
     /// A name, then file, line and column, and an empty line after each answer.
     Llvm,
-    /// As `addr2line` of GNU writes: no column, and no empty line.
+    /// Answers as GNU's `addr2line` writes them: no column, and no empty line.
     Gnu,
     /// An object for each answer.
     Json,
 }
 
-/// How answers are written.
+/// The options of the texts of answers.
 #[derive(Clone, Copy)]
 pub struct TextOptions {
     /// The style.

@@ -61,14 +61,14 @@ pub(crate) fn append_header(
     append(output, after_address(options.pretty))
 }
 
-/// What stands after the address before its answer.
+/// The text after the address before its answer.
 fn after_address(pretty: bool) -> &'static str
     ensures { result.now ≡ (if pretty then codes ": " else codes "\n") }
 {
     if pretty { ": " } else { "\n" }
 }
 
-/// What says that a frame called the one before it.
+/// The text that says that a frame called the one before it.
 fn caller_mark(pretty: bool, is_caller: bool) -> &'static str
     ensures { result.now ≡ caller_text pretty is_caller }
 {
@@ -79,7 +79,7 @@ fn caller_mark(pretty: bool, is_caller: bool) -> &'static str
     }
 }
 
-/// What stands after a function's name.
+/// The text after a function's name.
 fn after_name(pretty: bool) -> &'static str
     ensures { result.now ≡ (if pretty then codes " at " else codes "\n") }
 {
@@ -133,7 +133,7 @@ fn append_number_line(output: &mut Vec<u8>, text: &str, number: u32) -> Result<(
     append(output, "\n")
 }
 
-/// Appends what stands after the line.
+/// Appends the text after the line.
 fn append_column(output: &mut Vec<u8>, style: Style, column: u32) -> Result<(), AllocError>
     ensures { OnOk result (output.new.items ≡ output.old.items ++ column_text style column) }
 {
@@ -220,7 +220,7 @@ pub(crate) fn append_frame_lines(
     }
 }
 
-/// Appends what ends an answer.
+/// Appends the end of an answer.
 pub(crate) fn append_footer(output: &mut Vec<u8>, style: Style) -> Result<(), AllocError>
     ensures { OnOk result (output.new.items ≡ output.old.items ++ footer_text style) }
 {

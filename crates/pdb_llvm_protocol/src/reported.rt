@@ -47,7 +47,7 @@ impl<'f> Model for ReportedFrame<'f> {
 impl<'f> ReportedFrame<'f> {
     ghost use Rattle.pdb_llvm_protocol.specs.AnswerTexts.{unknown as unknown_frame};
 
-    /// A frame of which nothing is known, as where a file isn't there.
+    /// A frame of which nothing is known, such as where a file isn't there.
     pub fn unknown() -> ReportedFrame<'f>
         ensures { result ≡ unknown_frame }
     {
@@ -60,7 +60,7 @@ impl<'f> ReportedFrame<'f> {
     }
 }
 
-/// Which frames are asked for.
+/// The frames that are asked for.
 #[derive(Clone, Copy, PartialEq, Eq)]
 pub enum Asked {
     /// Inlined calls and the function.
@@ -71,16 +71,16 @@ pub enum Asked {
     Outermost,
 }
 
-/// Which frames are reported, and of their files what.
+/// The frames that are reported, and the form of their files.
 #[derive(Clone, Copy)]
 pub struct ReportOptions {
-    /// Which frames are reported.
+    /// The frames that are reported.
     pub asked: Asked,
     /// Whether a file is reported without its folders.
     pub base_names: bool,
 }
 
-/// What is known of the function's own frame besides what was found.
+/// The name and the column of the function's own frame, which are known besides the found frame.
 #[derive(Clone, Copy)]
 pub struct OwnFrame<'f> {
     /// The function's name, in UTF-8, if it has one.
@@ -225,7 +225,7 @@ fn push_asked<'f>(
     }
 }
 
-/// Leaves the innermost frame alone, if that one is asked for.
+/// Leaves the innermost frame only, if this one is asked for.
 fn keep_asked(reported: &mut Vec<ReportedFrame<'_>>, asked: Asked)
     ensures { reported.new.items ≡ kept_asked asked reported.old.items }
 {
@@ -291,8 +291,8 @@ fn function_alone<'f>(
 /// The frames at an address as they are reported: the inlined calls, innermost first, and then the
 /// function, under its name. Where no frames were found, the function alone.
 ///
-/// A frame has a line only by a row that begins in the function and goes on past the address. So a
-/// function without lines of its own has none, and neither has padding after a function.
+/// A frame has a line only from a row that begins in the function and goes on past the address. So
+/// a function without lines of its own has none, and neither has padding after a function.
 ///
 /// # Errors
 /// Where memory ran out.

@@ -13,7 +13,7 @@ use crate::number::{parse_hexadecimal, parse_number};
 use crate::words::{are_hexadecimal, first_of, trim, trim_start, word_end};
 use thiserror::Error;
 
-/// What is asked about an address.
+/// A command: the question about an address.
 #[derive(Clone, Copy, PartialEq, Eq)]
 pub enum Command {
     /// The functions, files and lines of code.
@@ -27,18 +27,18 @@ pub enum Command {
 /// The file of a request.
 #[derive(Clone, Copy)]
 pub enum RequestedFile<'l> {
-    /// The one that the arguments name.
+    /// The file that the arguments name.
     Given,
-    /// The one of this name, as it stands in the line.
+    /// The file of this name, as it stands in the line.
     Named(&'l [u8]),
-    /// The one that has this build ID, which stands in hexadecimal digits.
+    /// The file that has this build ID, which stands in hexadecimal digits.
     BuildId(&'l [u8]),
 }
 
 /// The request of a line.
 #[derive(Clone, Copy, Drop)]
 pub struct LineRequest<'l> {
-    /// What is asked.
+    /// The command.
     pub command: Command,
     /// The file.
     pub file: RequestedFile<'l>,
@@ -46,7 +46,7 @@ pub struct LineRequest<'l> {
     pub address: u64,
 }
 
-/// How lines are read.
+/// The form in which lines are read.
 #[derive(Clone, Copy)]
 pub struct LineForm {
     /// Whether the arguments name the file of all lines.
@@ -55,14 +55,14 @@ pub struct LineForm {
     pub hexadecimal: bool,
 }
 
-/// The file of a request, and what comes after it in the line.
+/// The file of a request, and the text after it in the line.
 #[derive(Clone, Copy)]
 struct FileAndRest<'l> {
     file: RequestedFile<'l>,
     rest: &'l [u8],
 }
 
-/// What stands before the file of a request.
+/// The prefix before the file of a request.
 #[derive(Clone, Copy, PartialEq, Eq)]
 enum Prefix {
     /// Nothing.
@@ -74,11 +74,11 @@ enum Prefix {
 }
 
 /// The most bytes that a request has: a path of 4,096 bytes fits, which is the longest that Linux
-/// opens, and what stands around it.
+/// opens, and the text around it.
 const LONGEST: usize = 4_351;
 
-/// Why a line is no request. It prints as `llvm-symbolizer` reports it, which for an empty line and
-/// for a symbol's name reports nothing, and takes a long line for several.
+/// The fault of a line that is no request. It prints as `llvm-symbolizer` reports it, which for an
+/// empty line and for a symbol's name reports nothing, and takes a long line for several.
 #[derive(Clone, Copy, Debug, PartialEq, Eq, Error)]
 pub enum RequestFault {
     /// The line has more than 4,351 bytes.
@@ -102,7 +102,7 @@ pub enum RequestFault {
     /// After `FILE:` or `BUILDID:` stands no name, or its quotes aren't closed.
     #[error("unbalanced quotes in input file name")]
     UnclosedQuotes,
-    /// What follows `BUILDID:` has other bytes than hexadecimal digits.
+    /// The text after `BUILDID:` has other bytes than hexadecimal digits.
     #[error("wrong format of build-id")]
     NotAHash,
     /// The line names no file, or its quotes aren't closed.
@@ -111,7 +111,7 @@ pub enum RequestFault {
     /// Nothing follows the file.
     #[error("no module offset has been specified")]
     NoAddress,
-    /// What should be an address begins with a digit, and is no number below 2^64.
+    /// The text that should be an address begins with a digit, and is no number below 2^64.
     #[error("expected a number as module offset")]
     NotANumber,
     /// The name of a symbol stands in place of an address.
@@ -119,8 +119,8 @@ pub enum RequestFault {
     SymbolName,
 }
 
-/// The command that a line begins with before one space, `CODE` where it begins with none, and what
-/// comes after.
+/// The command that a line begins with before one space, `CODE` where it begins with none, and the
+/// text after it.
 #[tactic(auto, unfolding(crate::specs::Request::command_of))]
 fn split_command(line: &[u8]) -> (Command, &[u8])
     ensures command { result.0 ≡ (command_of line.now).0 }
@@ -137,7 +137,7 @@ fn split_command(line: &[u8]) -> (Command, &[u8])
     }
 }
 
-/// The name before a quote, and what comes after it. An empty name where the quote is missing.
+/// The name before a quote, and the text after it. An empty name where the quote is missing.
 #[tactic(auto, unfolding(crate::specs::Request::quoted_of))]
 fn split_quoted(quote: u8, text: &[u8]) -> (&[u8], &[u8])
     ensures name { result.0.now ≡ (quoted_of quote text.now).0 }
@@ -149,7 +149,7 @@ fn split_quoted(quote: u8, text: &[u8]) -> (&[u8], &[u8])
     }
 }
 
-/// The name of a file that a text begins with, a word or in quotes, and what comes after it.
+/// The name of a file that a text begins with, a word or in quotes, and the text after it.
 #[tactic(auto, unfolding(crate::specs::Request::file_of))]
 fn split_file(text: &[u8]) -> (&[u8], &[u8])
     ensures name { result.0.now ≡ (file_of text.now).0 }
@@ -161,7 +161,7 @@ fn split_file(text: &[u8]) -> (&[u8], &[u8])
     }
 }
 
-/// The prefix that a text begins with, and what comes after it.
+/// The prefix that a text begins with, and the text after it.
 #[tactic(auto, unfolding(crate::specs::Request::prefix_of))]
 fn split_prefix(text: &[u8]) -> (Prefix, &[u8])
     ensures prefix { result.0 ≡ (prefix_of text.now).0 }
@@ -176,7 +176,7 @@ fn split_prefix(text: &[u8]) -> (Prefix, &[u8])
     }
 }
 
-/// What is wrong where nothing follows a prefix.
+/// The fault where nothing follows a prefix.
 fn empty_prefix(prefix: Prefix) -> RequestFault
     ensures { result ≡ empty_prefix_of prefix }
 {
@@ -186,7 +186,7 @@ fn empty_prefix(prefix: Prefix) -> RequestFault
     }
 }
 
-/// The file after a prefix and the blanks after it, and what comes after it.
+/// The file after a prefix and the blanks after it, and the text after the file.
 #[tactic(auto, unfolding(crate::specs::Request::prefixed_file_of))]
 fn read_prefixed(
     prefix: Prefix,
@@ -219,7 +219,7 @@ fn read_prefixed(
     }
 }
 
-/// The file where no prefix stands, and what comes after it.
+/// The file where no prefix stands, and the text after it.
 #[tactic(auto, unfolding(crate::specs::Request::bare_file_of))]
 fn read_bare(text: &[u8], file_given: bool) -> Result<FileAndRest<'_>, RequestFault>
     ensures { Names result (bare_file_of text.now file_given) }
@@ -238,7 +238,7 @@ fn read_bare(text: &[u8], file_given: bool) -> Result<FileAndRest<'_>, RequestFa
     Ok(FileAndRest { file, rest })
 }
 
-/// The file of a request, and what comes after it.
+/// The file of a request, and the text after it.
 #[tactic(auto, unfolding(crate::specs::Request::given_file_of))]
 fn read_file(text: &[u8], file_given: bool) -> Result<FileAndRest<'_>, RequestFault>
     ensures { Names result (given_file_of text.now file_given) }
@@ -269,7 +269,7 @@ fn parse_address(word: &[u8], hexadecimal: bool) -> Option<u64>
 /// The address that a text stands for: its first word's, blanks aside.
 ///
 /// # Errors
-/// `NoAddress` where there is no word, `NotANumber` where it begins with a digit, and else
+/// `NoAddress` where there is no word, `NotANumber` where it begins with a digit, and otherwise
 /// `SymbolName`.
 #[tactic(auto, unfolding(crate::specs::Request::address_of))]
 fn read_address(text: &[u8], hexadecimal: bool) -> Result<u64, RequestFault>
@@ -324,8 +324,8 @@ fn read_short(line: &[u8], form: LineForm) -> Result<LineRequest<'_>, RequestFau
 
 /// The request of a line, where the arguments name the file or else it stands in the line: a
 /// command and one space, if any, the file, a word or in quotes, if need be after `FILE:` or, by
-/// its build ID, after `BUILDID:`, and the address. What follows the address or a NUL doesn't
-/// count. The first 4,352 bytes of a line decide it.
+/// its build ID, after `BUILDID:`, and the address. Text after the address or a NUL doesn't count.
+/// The first 4,352 bytes of a line decide it.
 ///
 /// # Errors
 /// [`RequestFault`], the first that holds, in the order of its variants.

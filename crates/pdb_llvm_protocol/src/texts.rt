@@ -15,7 +15,7 @@ use crate::plain::{address_string, append, append_footer, append_frame_lines, ap
 use crate::reported::ReportedFrame;
 use std::alloc::{AllocError, Global};
 
-/// How deep an answer's object stands.
+/// The depth of an answer's object.
 fn depth(options: TextOptions) -> usize
     ensures { result ≡ depth_of options }
 {
@@ -41,7 +41,7 @@ fn append_address_member(
     append(output, ",")
 }
 
-/// Appends what an answer's object begins with.
+/// Appends the start of an answer's object.
 #[tactic(auto, unfolding(crate::specs::AnswerTexts::start_text))]
 fn append_start(
     alloc: Global,
@@ -65,7 +65,7 @@ fn append_module(output: &mut Vec<u8>, options: TextOptions, file: &str) -> Resu
     append_string_member(output, options.pretty, inner, "ModuleName", file.as_bytes())
 }
 
-/// Appends what an answer's object ends with.
+/// Appends the end of an answer's object.
 #[tactic(auto, unfolding(crate::specs::AnswerTexts::end_text))]
 fn append_end(output: &mut Vec<u8>, options: TextOptions) -> Result<(), AllocError>
     ensures { OnOk result (output.new.items ≡ output.old.items ++ end_text options) }
@@ -74,7 +74,7 @@ fn append_end(output: &mut Vec<u8>, options: TextOptions) -> Result<(), AllocErr
     append(output, close(options.in_array))
 }
 
-/// What closes an answer's object.
+/// The text that closes an answer's object.
 fn close(in_array: bool) -> &'static str
     ensures { result.now ≡ (if in_array then codes "}" else codes "}\n") }
 {
@@ -158,7 +158,7 @@ fn append_error_object(
     append_end(output, options)
 }
 
-/// Appends an answer by a file that isn't there or can't be loaded, for the reason in `message`.
+/// Appends an answer for a file that isn't there or can't be loaded, for the reason in `message`.
 /// The reason is written in JSON alone.
 ///
 /// # Errors

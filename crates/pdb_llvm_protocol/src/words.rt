@@ -14,7 +14,7 @@ fn is_blank(byte: u8) -> bool
     matches!(byte, b' ' | b'\t'..=b'\r')
 }
 
-/// Where the first byte of this value stands.
+/// The place of the first byte of this value.
 pub(crate) fn first_of(byte: u8, text: &[u8]) -> Option<usize>
     ensures { result ≡ position (λ b. b == byte) text.now }
 {
@@ -42,7 +42,7 @@ fn ends_word(byte: u8) -> bool
     matches!(byte, b' ' | b'\n' | b'\r')
 }
 
-/// Where the first byte stands that is no blank.
+/// The place of the first byte that is no blank.
 fn first_printed(text: &[u8]) -> Option<usize>
     ensures { result ≡ position (λ b. not (is_blank_of b)) text.now }
 {
@@ -73,14 +73,14 @@ pub(crate) fn trim(text: &[u8]) -> &[u8]
     &rest[..end]
 }
 
-/// Where the first byte stands that ends a word.
+/// The place of the first byte that ends a word.
 fn first_end(text: &[u8]) -> Option<usize>
     ensures { result ≡ position ends_word_of text.now }
 {
     text.iter().position(|byte| ends_word(*byte))
 }
 
-/// How many bytes come before the end of the first word.
+/// The number of bytes before the end of the first word.
 #[tactic(auto, unfolding(crate::specs::Words::word_end))]
 pub(crate) fn word_end(text: &[u8]) -> usize
     ensures is { result ≡ word_end_of text.now }

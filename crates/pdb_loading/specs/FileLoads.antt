@@ -1,4 +1,4 @@
--- How a file is loaded by what was read of it.
+-- The loading of a file from what was read of it.
 use Rattle.std.specs.Prelude.{◌≡◌, true, ℕ, List, Option}
 use Rattle.pdb_file_views.specs.Views.{Views, agrees}
 use Rattle.pdb_loading.specs.FileFaults.{OnLoadFault}
@@ -16,7 +16,8 @@ use Rattle.pdb_symbols_modules.specs.Streams.{streams}
 abbrev pub Agree : Views → List ℕ → Type 0
 Agree views file = agrees views file ≡ true
 
--- why a file of these bytes isn't loaded where section contributions have to stand in this order
+-- the loading fault of a file of these bytes, where section contributions have to stand in this
+-- order
 abbrev pub file_fault : ContributionOrder → List ℕ → Option LoadingFault
 file_fault order file = load_fault_with order (streams file)
 
@@ -28,6 +29,6 @@ RefusesFile order file e = Refuses e (file_fault order file)
 abbrev pub RefusesToLoad : ContributionOrder → List ℕ → FileFault → Type 0
 RefusesToLoad order file e = OnLoadFault e (RefusesFile order file)
 
--- what is stored of the modules of a file, by the list in its stream 3
+-- the stored information of the modules of a file, from the list in its stream 3
 abbrev pub AreInfos : Dbi → List ℕ → List KeptInfo → Type 0
 AreInfos dbi file infos = infos ≡ listed_infos dbi (streams file)

@@ -1,4 +1,4 @@
--- Modules of a file that are read when they are asked for: what is stored of each.
+-- Modules of a file that are read when they are asked for: the stored information of each.
 use Rattle.std.specs.Prelude.{◌≡◌, ℕ, List, [], ◌∷◌, map, Option, None, Result, Ok}
 use Rattle.std.specs.List.{All}
 use Rattle.pdb_container.specs.Fault.{Fault}
@@ -11,7 +11,7 @@ use Rattle.pdb_symbols_modules.specs.ModuleStream.{ModuleStream}
 use Rattle.pdb_symbols_modules.specs.Modules.{Module}
 use Rattle.pdb_symbols_modules.specs.Streams.{Streams, streams}
 
--- where a module's stream is, and the sizes of its parts
+-- the number of a module's stream, and the sizes of its parts
 abbrev pub parts_of : Module → ModuleParts
 parts_of m =
     record {
@@ -21,7 +21,7 @@ parts_of m =
       c13_lines_size = m.c13_lines_size;
     }
 
--- the entry of a module without its names, on which nothing that is stored depends
+-- the entry of a module without its names, on which no stored information depends
 abbrev pub entry_of : ModuleParts → Module
 entry_of p =
     record {
@@ -33,7 +33,7 @@ entry_of p =
       object_file_name = [];
     }
 
--- what is stored of a module of a file
+-- the stored information of a module of a file
 abbrev pub kept_by : List ℕ → ModuleParts → KeptInfo
 kept_by file p = kept_info (module_info (streams file) (entry_of p))
 
@@ -41,7 +41,8 @@ kept_by file p = kept_info (module_info (streams file) (entry_of p))
 abbrev pub tag_of : ModuleParts → List ℕ → List ℕ
 tag_of p file = p.stream ∷ p.symbols_size ∷ p.c11_lines_size ∷ p.c13_lines_size ∷ file
 
--- what is stored of the module that these numbers tag; no stream where there are fewer than four
+-- the stored information of the module that these numbers tag; no stream where they are fewer than
+-- four
 abbrev pub kept_by_tag : List ℕ → KeptInfo
 kept_by_tag (stream ∷ symbols_size ∷ c11_lines_size ∷ c13_lines_size ∷ file) =
     kept_by file
@@ -57,15 +58,15 @@ kept_by_tag other = Ok None
 abbrev pub IsOfFile : List ℕ → ModuleSlot → Type 0
 IsOfFile file slot = slot.kept.tag ≡ tag_of slot.parts file
 
--- what is stored of the modules of these slots, once they are asked for
+-- the stored information of the modules of these slots, once they are asked for
 abbrev pub kept_in : List ℕ → List ModuleSlot → List KeptInfo
 kept_in file slots = map (λ slot. kept_by file slot.parts) slots
 
--- a module's own stream in a file, by what reading it needs
+-- a module's own stream in a file, from the numbers by which it is read
 abbrev pub module_by : ModuleParts → Streams → Result (Option ModuleStream) Fault
 module_by p s = module_info s (entry_of p)
 
--- slots are of a file, each with what is stored of a module in its place
+-- slots are of a file, each with the stored information of a module in its place
 abbrev pub AreSlotsOf : List ℕ → List Module → List ModuleSlot → Type 0
 AreSlotsOf file modules slots =
     All (IsOfFile file) slots × (kept_in file slots ≡ kept_infos (streams file) modules)

@@ -1,4 +1,4 @@
--- What is held of a database, and that it is the file's.
+-- A database that is held, and that it is the file's.
 use Rattle.std.specs.Prelude.{◌≡◌, ℕ, List, length, Option, map, Result}
 use Rattle.pdb_loading.specs.ModuleInfos.{KeptInfo, kept_info, answered, answered_at, if_read}
 use Rattle.pdb_loading.specs.ModuleInfos.{AnswersSourceFault, KeepsAt, KeepsNames}
@@ -17,38 +17,38 @@ use Rattle.pdb_symbols_modules.specs.DatabaseCalls.{names, module_info}
 use Rattle.pdb_symbols_modules.specs.Shared.{shared, provider}
 use Rattle.pdb_symbols_modules.specs.Streams.{Streams}
 
--- what is read in order, the names of files and modules where there are any, and what is stored of
--- each module in the order of the list
+-- everything that is read in order, the names of files and modules where there are any, and the
+-- stored information of each module in the order of the list
 pub record Held : Type 0 where
   pub debug_information : Dbi
   pub tables : Tables
   pub names : Option (List ℕ)
   pub infos : List KeptInfo
 
--- what is read in order
+-- everything that is read in order
 abbrev pub read_in : Held → DatabaseRead
 read_in h = record { debug_information = h.debug_information; tables = h.tables }
 
--- what every question of a context goes over, where section contributions have to stand in this
--- order
+-- the parts that every question of a context goes over, where section contributions have to stand
+-- in this order
 abbrev pub parts_held_with : ContributionOrder → Held → Result Parts answers.Fault
 parts_held_with order h =
     parts_with order h.tables.map.image h.tables.map h.tables.symbol_records
     h.debug_information.contributions h.names
 
--- what it goes over where they have to stand in order
+-- the parts where section contributions have to stand in order
 abbrev pub parts_held : Held → Result Parts answers.Fault
 parts_held h = parts_held_with InOrder h
 
--- whether that can be had, where they have to stand in this order
+-- whether the parts can be made, where section contributions have to stand in this order
 abbrev pub parts_checked : ContributionOrder → Held → Result (Unit {0}) answers.Fault
 parts_checked order h = outcome (parts_held_with order h)
 
--- what is stored of the modules of a list
+-- the stored information of the modules of a list
 abbrev pub kept_infos : Streams → List Module → List KeptInfo
 kept_infos s modules = map (λ m. kept_info (module_info s m)) modules
 
--- what is stored of the modules that stream 3 lists
+-- the stored information of the modules that stream 3 lists
 abbrev pub listed_infos : Dbi → Streams → List KeptInfo
 listed_infos dbi s = kept_infos s (modules_of dbi.modules).items
 
@@ -57,12 +57,12 @@ listed_infos dbi s = kept_infos s (modules_of dbi.modules).items
 abbrev pub names_in : Streams → Option (List ℕ)
 names_in s = if_read (names (shared s))
 
--- what a file gives of the module with that index, with a fault as it is stored
+-- the answer of a file for the module with that index, with a fault as it is stored
 abbrev pub given : Streams → ℕ → Result (Option ModuleStream) Fault
 given s number = answered (kept_info (provider s number))
 
--- Names and modules are the file's, but for what its source failed to give: names are missing
--- then, and a module has that fault. As many modules are stored as the list has, so past it there
+-- Names and modules are the file's, but for what its source failed to give: names are missing then,
+-- and a module has the source's fault. As many modules are stored as the list has, so past it there
 -- is none.
 pub record IsOwn (s : Streams) (failed : Type 0) (h : Held) : Type 0 where
   pub names_are : KeepsNames failed h.names (names_in s)

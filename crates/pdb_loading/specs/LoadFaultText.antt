@@ -1,4 +1,4 @@
--- What a loading fault prints.
+-- The text of a loading fault.
 use Rattle.std.specs.Prelude.{◌≡◌, ℕ, List, ◌++◌, codes, string_bytes}
 use Rattle.std.specs.Fmt.{decimal}
 use Rattle.pdb_container.specs.ErrorText.{error_text, kind_text}
@@ -17,8 +17,8 @@ with_number name n = name ++ decimal n ++ codes ")"
 abbrev pub with_numbers : List ℕ → ℕ → ℕ → List ℕ
 with_numbers name n m = name ++ decimal n ++ codes ", " ++ decimal m ++ codes ")"
 
--- a cause in the container prints as it does there, any other as its name and, in parentheses,
--- its values
+-- the text of a cause: an error of the container prints as it does there, any other as its name
+-- and, in parentheses, its values
 abbrev pub cause_text : context.Error → List ℕ
 cause_text (contexts.PdbError e) = error_text e
 cause_text (contexts.FormatError e) = codes "FormatError"
@@ -59,14 +59,14 @@ HasPlainName (contexts.ModuleInfoNotFound n) name = Unit {0}
 HasPlainName (contexts.CircularTypeDefinition n) name = Unit {0}
 HasPlainName e name = name ≡ cause_text e
 
--- what a loading fault prints: its cause, or its name
+-- the text of a loading fault: its cause, or its name
 abbrev pub load_fault_text : LoadFault → List ℕ
 load_fault_text (faults.Pdb e) = cause_text e
 load_fault_text faults.AddressTableDecreases = codes "AddressTableDecreases"
 load_fault_text faults.OutOfMemory = codes "OutOfMemory"
 
--- what the fault of a file that is read on demand prints: that of loading it, or its name and its
--- kind
+-- the text of the fault of a file that is read on demand: that of the loading fault, or its name
+-- and its kind
 abbrev pub file_fault_text : FileFault → List ℕ
 file_fault_text (Load fault) = load_fault_text fault
 file_fault_text (File kind) = codes "File(" ++ kind_text kind ++ codes ")"

@@ -1,4 +1,4 @@
--- Faults of loading: which a fault of the code is, and when a call that loads may return one.
+-- Faults of loading: as the code and the definitions have them, and when a call may return one.
 use Rattle.std.specs.Prelude.{◌≡◌, Option, Some, Result, Err}
 use Rattle.pdb_container.specs.declared.error.Error as container
 use Rattle.pdb_container.specs.declared.error.Error.TheVariants as errors
@@ -9,20 +9,20 @@ use Rattle.pdb_loading.specs.Loading.{LoadingFault, Pdb, AddressTableDecreases}
 use Rattle.pdb_loading.specs.declared.load_fault.LoadFault.{LoadFault}
 use Rattle.pdb_loading.specs.declared.load_fault.LoadFault.TheVariants as faults
 
--- an error of the reader as a fault of loading; out of memory is one of its own, whichever way it
--- came
+-- an error of the reader as a fault of loading; out of memory is a fault of its own, whichever way
+-- it came
 abbrev pub load_fault_of : container.Error → LoadFault
 load_fault_of errors.OutOfMemory = faults.OutOfMemory
 load_fault_of e = faults.Pdb (contexts.PdbError e)
 
--- what fault a fault of the code is; out of memory is none, and its value there stands in no
+-- the fault that a fault of the code is; out of memory is none, and its value there stands in no
 -- promise
 abbrev pub loading_fault_of : LoadFault → LoadingFault
 loading_fault_of (faults.Pdb e) = Pdb (answers.fault_of e)
 loading_fault_of faults.AddressTableDecreases = AddressTableDecreases
 loading_fault_of faults.OutOfMemory = AddressTableDecreases
 
--- an error of a context as a fault of loading; out of memory is one of its own
+-- an error of a context as a fault of loading; out of memory is a fault of its own
 abbrev pub load_fault_in_context : context.Error → LoadFault
 load_fault_in_context contexts.OutOfMemory = faults.OutOfMemory
 load_fault_in_context e = faults.Pdb e

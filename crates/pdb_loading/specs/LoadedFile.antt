@@ -1,4 +1,4 @@
--- What is held of a file that was loaded is the file's.
+-- A file that was loaded: what is held is the file's.
 use Rattle.std.specs.Prelude.{◌≡◌, ℕ, true, List, Ok}
 use Rattle.pdb_addresses.specs.Addresses.{IsOrdered, is_ordered}
 use Rattle.pdb_symbols_modules.specs.Dbi.{Dbi}
@@ -16,8 +16,8 @@ pub record FileBytes : Type 0 where
   pub bytes : List ℕ
   pub order : ContributionOrder
 
--- What was loaded, where section contributions have to stand in this order, the string table, and
--- what is given of each module are the file's.
+-- All that was loaded, where section contributions have to stand in this order, the string table,
+-- and what is given of each module are the file's.
 pub record IsLoadedWith (order : ContributionOrder) (file : List ℕ) (h : Held) : Type 0 where
   pub parts : Parts
   pub loaded_is : loaded_with order (shared (streams file)) ≡ Ok record {
@@ -30,7 +30,7 @@ pub record IsLoadedWith (order : ContributionOrder) (file : List ℕ) (h : Held)
   pub names_are : h.names ≡ names_in (streams file)
   pub modules_are : (number : ℕ) → answered_at h.infos number ≡ given (streams file) number
 
--- Stream 3 and what comes after it are the file's, and the OMAPs are in order.
+-- Stream 3 and its tables are the file's, and the OMAPs are in order.
 pub record AreInOrder (s : Streams) (dbi : Dbi) (read : Tables) : Type 0 where
   pub dbi_is : debug_information (shared s) ≡ Ok dbi
   pub tables_are : tables (shared s) dbi ≡ Ok read

@@ -21,7 +21,7 @@ use Rattle.pdb_loading.specs.Orders.{parts_with}
 
 -- ---- faults
 
--- why a file isn't loaded; out of memory is in no definition
+-- the fault that keeps a file from being loaded; out of memory is in no definition
 pub data LoadingFault : Type 0 where
   Pdb : answers.Fault → LoadingFault
   AddressTableDecreases : LoadingFault
@@ -31,14 +31,14 @@ abbrev pub lifted : {A : Type 0} → Result A container.Fault → Result A Loadi
 lifted (Ok x) = Ok x
 lifted (Err e) = Err (Pdb (answers.PdbError e))
 
--- a fault of what answers go over is one of loading
+-- a fault of the parts that answers go over is one of loading
 abbrev pub in_loading : {A : Type 0} → Result A answers.Fault → Result A LoadingFault
 in_loading (Ok x) = Ok x
 in_loading (Err e) = Err (Pdb e)
 
 -- ---- the order
 
--- what comes after stream 3: the symbol records' bytes, the tables of types and ids, and the
+-- the tables after stream 3: the symbol records' bytes, the tables of types and ids, and the
 -- address map
 pub record Tables : Type 0 where
   pub symbol_records : List ℕ
@@ -46,7 +46,7 @@ pub record Tables : Type 0 where
   pub ids : Table
   pub map : Map
 
--- what was loaded: stream 3, what comes after it, and what every question goes over
+-- everything that was loaded: stream 3, its tables, and the parts that every question goes over
 pub record Loaded : Type 0 where
   pub debug_information : Dbi
   pub tables : Tables
@@ -57,7 +57,7 @@ abbrev pub none_or : Option container.Fault → Result (Unit {0}) container.Faul
 none_or None = Ok tt
 none_or (Some e) = Err e
 
--- What comes after stream 3, in this order.
+-- The tables after stream 3, in this order.
 unfoldable pub tables : Shared → Dbi → Result Tables container.Fault
 tables c dbi = do
   -- the stream of the symbol records
@@ -76,8 +76,8 @@ listed dbi = do
   modules ← whole (modules_of dbi.modules)
   Ok tt
 
--- What every question goes over: the symbol records to their end, and then the contributions, in
--- this order and apart. A string table that can't be read is none.
+-- The parts that every question goes over: the symbol records to their end, and then the
+-- contributions, in this order and apart. A string table that can't be read is none.
 abbrev pub parts_in : ContributionOrder → Shared → Dbi → Tables → Result Parts LoadingFault
 parts_in order c dbi read =
     in_loading
@@ -102,26 +102,26 @@ loaded_with order c = do
   parts ← parts_in order c dbi read
   Ok record { debug_information = dbi; tables = read; parts = parts }
 
--- what is loaded where they have to stand in order
+-- everything that is loaded where section contributions have to stand in order
 abbrev pub loaded : Shared → Result Loaded LoadingFault
 loaded c = loaded_with InOrder c
 
--- why a file isn't loaded where they have to stand in this order
+-- the loading fault of a file where section contributions have to stand in this order
 abbrev pub load_fault_with : ContributionOrder → Streams → Option LoadingFault
 load_fault_with order s = fault_in (loaded_with order (shared s))
 
--- why a file isn't loaded
+-- the loading fault of a file
 abbrev pub load_fault : Streams → Option LoadingFault
 load_fault s = fault_in (loaded (shared s))
 
 -- ---- the steps that fail as the container does
 
--- what contexts and formatters are made of, of an open database
+-- the part of an open database from which contexts and formatters are made
 pub record DatabaseRead : Type 0 where
   pub debug_information : Dbi
   pub tables : Tables
 
--- the module list, after what comes before it
+-- the module list, after stream 3 and its tables
 abbrev pub read_after : Dbi → Tables → Result DatabaseRead container.Fault
 read_after dbi read = do
   modules ← listed dbi

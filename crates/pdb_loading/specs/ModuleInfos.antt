@@ -1,4 +1,4 @@
--- What is stored of what may be missing: modules' own streams, and the string table.
+-- Stored information that may be missing: modules' own streams, and the string table.
 use Rattle.std.specs.Prelude.{◌≡◌, ◌≢◌, ℕ, ◌≤◌, ◌⊎◌, List, Option, None, Some, slice_get}
 use Rattle.std.specs.Prelude.{Result, Ok, Err}
 use Rattle.std.specs.List.{AllZip}
@@ -12,7 +12,7 @@ use Rattle.pdb_container.specs.Fault.{Fault, StreamNotFound, PageReferenceOutOfR
 use Rattle.pdb_container.specs.Fault.{UnexpectedEof, Kept, HasRisen}
 use Rattle.pdb_symbols_modules.specs.ModuleStream.{ModuleStream}
 
--- what is stored of a module: its own stream, where it has one, or why that can't be read
+-- the stored information of a module: its own stream, where it has one, or the fault in reading it
 abbrev pub KeptInfo : Type 0
 KeptInfo = Result (Option ModuleStream) ModuleFault
 
@@ -23,22 +23,22 @@ kept_fault (PageReferenceOutOfRange page) = kept.PageReferenceOutOfRange page
 kept_fault (IoError kind) = kept.IoError kind
 kept_fault e = kept.UnexpectedEof
 
--- what is stored of a module that was read
+-- the stored information of a module that was read
 abbrev pub kept_info : Result (Option ModuleStream) Fault → KeptInfo
 kept_info (Ok found) = Ok found
 kept_info (Err e) = Err (kept_fault e)
 
--- an error as what is stored of a module, where that may be stored
+-- an error as the stored information of a module, where it may be stored
 abbrev pub kept_as : Result ModuleFault Error → Result KeptInfo Error
 kept_as (Ok fault) = Ok (Err fault)
 kept_as (Err e) = Err e
 
--- what is answered of it: a fault as `Kept`
+-- the answer from stored information: a fault as `Kept`
 abbrev pub answered : KeptInfo → Result (Option ModuleStream) Fault
 answered (Ok found) = Ok found
 answered (Err fault) = Err (Kept fault)
 
--- what is answered of a module that may be past the list, where there is none
+-- the answer for a module that may be past the list, where there is none
 abbrev pub answered_if_listed : Option KeptInfo → Result (Option ModuleStream) Fault
 answered_if_listed None = Ok None
 answered_if_listed (Some info) = answered info
@@ -57,11 +57,11 @@ abbrev pub IsSourceFault : ModuleFault → Type 0
 IsSourceFault (kept.IoError kind) = kind ≢ kinds.UnexpectedEof
 IsSourceFault fault = ⊥
 
--- What is stored is what there is, or the source failed, and it is what stands for that.
+-- The stored value is what there is, or the source failed, and it is what stands for this.
 abbrev pub KeepsAt : {A : Type 0} → (A → Type 0) → Type 0 → A → A → Type 0
 KeepsAt stands failed kept there = (kept ≡ there) ⊎ (failed × stands kept)
 
--- of a module: where the source failed, that fault
+-- of a module: where the source failed, the source's fault
 abbrev pub KeepsInfo : Type 0 → KeptInfo → KeptInfo → Type 0
 KeepsInfo failed kept there = KeepsAt (λ k. IsErrAnd k IsSourceFault) failed kept there
 
@@ -78,8 +78,8 @@ abbrev pub AnswersSourceFault : Result (Option ModuleStream) Fault → Type 0
 AnswersSourceFault (Err (Kept fault)) = IsSourceFault fault
 AnswersSourceFault answer = ⊥
 
--- What a call returned, seen by view, is what there is, or what stands for a failed source; its
--- only error is out of memory.
+-- A call returned what there is, seen by view, or what stands for a failed source; its only error
+-- is out of memory.
 abbrev pub Keeps : {X Y : Type 0} → (Y → Y → Type 0) → (X → Y) → Result X Error → Y → Type 0
 Keeps keeps view (Ok x) there = keeps (view x) there
 Keeps keeps view (Err errors.OutOfMemory) there = Unit {0}
@@ -102,7 +102,7 @@ IsStreamFault (IoError kind) = Unit {0}
 IsStreamFault UnexpectedEof = Unit {0}
 IsStreamFault e = ⊥
 
--- a reading that has no other fault
+-- a reading that has none but such faults
 abbrev pub FailsAsStream : {A : Type 0} → Result A Fault → Type 0
 FailsAsStream (Ok x) = Unit {0}
 FailsAsStream (Err e) = IsStreamFault e

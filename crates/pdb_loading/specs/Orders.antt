@@ -1,4 +1,4 @@
--- In which order section contributions have to stand, and what every question goes over then.
+-- The order in which section contributions have to stand, and the parts of every question then.
 use Rattle.std.specs.Prelude.{ℕ, List, Option, Result, Ok}
 use Rattle.pdb_addresses.specs.declared.sections.ImageSectionHeader.{ImageSectionHeader}
 use Rattle.pdb_addresses.specs.Addresses.{Map}

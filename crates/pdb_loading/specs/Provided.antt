@@ -1,4 +1,4 @@
--- What modules are provided with: a fault is answered as `Kept` and as no other.
+-- The answers that modules are provided with: a fault is answered as `Kept` and as no other.
 use Rattle.std.specs.Prelude.{ℕ, List, Option, None, Some, Ok, Err, IfErr, slice_get}
 use Rattle.pdb_resolving.specs.Fault.{IsOfModules}
 use Rattle.pdb_loading.specs.ModuleInfos.{KeptInfo, answered_if_listed, answered_at}

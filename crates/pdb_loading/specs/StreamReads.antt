@@ -1,4 +1,4 @@
--- What calls that read streams answer by the bytes of their source.
+-- The answers of calls that read streams, from the bytes of their source.
 use Rattle.std.specs.Prelude.{ℕ, List, Result}
 use Rattle.pdb_addresses.specs.Addresses.{Map}
 use Rattle.pdb_container.specs.Fault.{Fault, HasRisen}
@@ -16,32 +16,33 @@ use Rattle.pdb_symbols_modules.specs.Streams.{Streams, streams}
 
 -- ---- what calls answer
 
--- A call answered, seen by view, what is read of the streams of its source, which it left as it
--- was.
+-- A call answered, seen by view, what is read of the streams of its source, and left the source as
+-- it was.
 abbrev pub AnswersBy : {S X Y : Type 0} → (S → List ℕ) → (S → ℕ) → S → S → (X → Y)
     → Result X Error → (Streams → Result Y Fault) → Type 0
 AnswersBy bytes failures old new view result read =
     AnswersFrom bytes failures old new view result (read (streams (bytes old)))
 
--- A call returned what there is by the streams of its source, or what stands for a failed source,
--- which it left as it was.
+-- A call returned what there is in the streams of its source, or what stands for a failed source,
+-- and left the source as it was.
 abbrev pub KeepsBy : {S X Y : Type 0} → (S → List ℕ) → (S → ℕ) → S → S
     → (Type 0 → Y → Y → Type 0) → (X → Y) → Result X Error → (Streams → Y) → Type 0
 KeepsBy bytes failures old new keeps view result there =
     KeepsFrom bytes failures old new keeps view result (there (streams (bytes old)))
 
--- A call holds what it read in order of a database, whose source it left as it was.
+-- A call holds what it read in order of a database, and left the database's source as it was.
 abbrev pub Holds : {S : Type 0} → (S → List ℕ) → (S → ℕ) → S → S → Result Held Error
     → Result DatabaseRead Fault → Type 0
 Holds bytes failures old new result read =
     AnswersFrom bytes failures old new read_in result read
 
--- what is held is the source's own, but for what it failed to give from one state to another
+-- a held database is the source's own, but for what the source failed to give from one state to
+-- another
 abbrev pub IsOwnFrom : {S : Type 0} → (S → List ℕ) → (S → ℕ) → S → S → Held → Type 0
 IsOwnFrom bytes failures old new held =
     IsOwn (streams (bytes old)) (HasRisen (failures old) (failures new)) held
 
--- the same of what is stored of the modules that stream 3 lists
+-- the same of the stored information of the modules that stream 3 lists
 abbrev pub KeepsListed : {S : Type 0} → (S → List ℕ) → (S → ℕ) → S → S → Dbi → List KeptInfo
     → Type 0
 KeepsListed bytes failures old new dbi kept = KeepsInfos (HasRisen (failures old) (failures new))
@@ -61,10 +62,10 @@ map_by dbi s = address_map_by (optional_in (shared s) dbi)
 abbrev pub tables_by : Dbi → Streams → Result Tables Fault
 tables_by dbi s = tables (shared s) dbi
 
--- what is stored of a module
+-- the stored information of a module
 abbrev pub info_by : Module → Streams → KeptInfo
 info_by m s = kept_info (module_info s m)
 
--- what is stored of modules
+-- the stored information of modules
 abbrev pub infos_by : List Module → Streams → List KeptInfo
 infos_by modules s = kept_infos s modules

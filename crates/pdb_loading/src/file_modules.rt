@@ -21,7 +21,7 @@ use std::collections::BTreeMap;
 use std::marker::Model;
 use std::ops::Range;
 
-/// What a slot of a module stores: what its file has of the module.
+/// The rule of a module's slot: it stores what its file has of the module.
 pub struct OfFile;
 
 impl<'s> SlotRule<KeptInfo<'s>> for OfFile {
@@ -39,7 +39,7 @@ impl<'f> Names<TaggedModule<'f>> for OfFile {
     ghost numbers = { λ m. tag_of m.parts m.file.now };
 }
 
-/// A module, and what is stored of it once it was asked for.
+/// A slot of a module, with what is stored of the module once it was asked for.
 #[derive(Drop)]
 pub struct ModuleSlot<'s> {
     parts: ModuleParts,
@@ -49,7 +49,7 @@ pub struct ModuleSlot<'s> {
 }
 
 /// The modules of a file, of which each is read when it is first asked for. Their value in
-/// contracts is what is stored of each once it was.
+/// contracts is what is stored of each module once it was asked for.
 #[derive(Drop)]
 pub struct FileModules<'s> {
     reader: FileReader<'s>,
@@ -70,7 +70,7 @@ impl<'s> Model for FileModules<'s> {
 }
 
 impl<'s> FileModules<'s> {
-    /// These modules of a file that is open. None is read.
+    /// The modules of a file that is open. None is read.
     ///
     /// # Errors
     /// `OutOfMemory`.
@@ -87,8 +87,8 @@ impl<'s> FileModules<'s> {
         Ok(FileModules { reader, slots })
     }
 
-    /// What is stored of the module with that index; `None` past the list. It is read where it
-    /// isn't stored.
+    /// The stored information of the module with that index; `None` past the list. It is read where
+    /// it isn't stored.
     ///
     /// # Errors
     /// `OutOfMemory`.
@@ -100,7 +100,7 @@ impl<'s> FileModules<'s> {
 }
 
 impl<'s> FileModules<'s> {
-    /// How many modules there are.
+    /// The number of modules.
     pub fn len(&self) -> usize
         ensures { result ≡ length self.now }
     {
@@ -134,7 +134,7 @@ fn empty_slots<'s>(
     Ok(slots)
 }
 
-/// The first index that was given with a stream's number, which may be this one.
+/// The first index that was given with a stream's number; it may be this index.
 fn first_with(firsts: &mut BTreeMap<u16, usize>, stream: u16, index: usize) -> Result<usize>
     ensures memory { IsOkUnless result Error.OutOfMemory }
 {
@@ -158,8 +158,8 @@ fn slot_of<'s>(file: &FileSource, parts: ModuleParts, first: usize) -> ModuleSlo
     }
 }
 
-/// What is stored of the module with that index among these slots; `None` past them. Modules that
-/// name one stream share its bytes.
+/// The stored information of the module with that index among these slots; `None` past them.
+/// Modules that name one stream share its bytes.
 fn kept_at<'a, 's>(
     reader: &FileReader<'s>,
     slots: &'a [ModuleSlot<'s>],
@@ -180,7 +180,8 @@ fn kept_at<'a, 's>(
     }
 }
 
-/// What is stored of a slot's module; it is read where it isn't stored. `OutOfMemory` alone.
+/// The stored information of a slot's module; it is read where it isn't stored. `OutOfMemory`
+/// alone.
 fn kept_alone<'a, 's>(reader: &FileReader<'s>, slot: &'a ModuleSlot<'s>) -> Result<&'a KeptInfo<'s>>
     requires { IsOfFile reader.now slot.now }
     ensures { Gives (λ k. k.now) ⊥ result (Ok (kept_by reader.now slot.now.parts)) }
@@ -195,7 +196,7 @@ fn kept_alone<'a, 's>(reader: &FileReader<'s>, slot: &'a ModuleSlot<'s>) -> Resu
     }
 }
 
-/// What another thread stored in a slot. `OutOfMemory` while it is at it.
+/// The information that another thread stored in a slot. `OutOfMemory` while it is at it.
 fn stored_in<'a, 's>(slot: &'a ModuleSlot<'s>) -> Result<&'a KeptInfo<'s>>
     ensures { Gives (λ k. k.now) ⊥ result (Ok (kept_by_tag slot.now.kept.tag)) }
 {
@@ -205,8 +206,8 @@ fn stored_in<'a, 's>(slot: &'a ModuleSlot<'s>) -> Result<&'a KeptInfo<'s>>
     }
 }
 
-/// What is stored of a slot's module, whose stream another slot's module names first: it shares the
-/// bytes of that one. `OutOfMemory` alone.
+/// The stored information of a slot's module, whose stream another slot's module names first: it
+/// shares the bytes of the first one. `OutOfMemory` alone.
 #[tactic(auto, using(crate::proofs::FileSteps::same_stream))]
 fn kept_as_first<'a, 's>(
     reader: &FileReader<'s>,
@@ -228,7 +229,7 @@ fn kept_as_first<'a, 's>(
     }
 }
 
-/// What is stored of a module, by what is stored of another one that names the same stream. Both
+/// The stored information of a module, from that of another one that names the same stream. Both
 /// share the stream's bytes. `OutOfMemory` alone.
 fn in_parts<'s>(kept: &KeptInfo<'s>, parts: ModuleParts) -> Result<KeptInfo<'s>>
     ensures { Gives (λ k. k) ⊥ result (Ok (in_parts_of (entry_of parts) kept.now)) }

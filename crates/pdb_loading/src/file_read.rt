@@ -12,24 +12,25 @@ use pdb_container::{may_be_container, pages_end};
 use std::alloc::Global;
 use std::io::{self, ErrorKind, Read};
 
-/// How many bytes show whether a file may be a container.
+/// The number of bytes that show whether a file may be a container.
 const FRONT: u64 = 32;
 
-/// How many bytes the header and its list of pages lie in.
+/// The number of bytes in which the header and its list of pages lie.
 const HEADER_VIEW: u64 = 4096;
 
-/// How many bytes are asked for at once.
+/// The number of bytes that are asked for at once.
 const AT_ONCE: usize = 16_384;
 
-/// How often a read is tried again where a signal interrupts it.
+/// The number of times that a read is tried again where a signal interrupts it.
 const TRIES: u32 = u32::MAX;
 
 /// Reads a file from where its reader stands. Of a big MSF container no more is read than its first
 /// 4096 bytes and the pages that its header counts. Of a file that is longer than 32 bytes and
-/// doesn't begin as one does, the first 32 are read. No more is read, however long the file is.
+/// doesn't begin as a container does, the first 32 are read. No more is read, however long the file
+/// is.
 ///
 /// # Errors
-/// As the reader's; a read that a signal interrupts is tried again.
+/// The reader's errors; a read that a signal interrupts is tried again.
 #[tactic(auto, using(crate::proofs::Consumed::front_read, crate::proofs::Consumed::pages_read, crate::proofs::Consumed::rest_taken, crate::proofs::Consumed::still_begins))]
 pub fn read_file<R: Read>(alloc: Global, file: &mut R) -> io::Result<Vec<u8>>
     ensures taken { IfOk result

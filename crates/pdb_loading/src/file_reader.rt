@@ -14,8 +14,8 @@ use std::alloc::Global;
 use std::marker::Model;
 use std::sync::Mutex;
 
-/// What reading a module needs of the module's entry: where the module's own stream is, and the
-/// sizes of that stream's parts in bytes.
+/// The numbers of a module's entry by which the module is read: its own stream, and the sizes of
+/// the stream's parts in bytes.
 #[derive(Clone, Copy, Debug)]
 pub struct ModuleParts {
     pub(crate) stream: u16,
@@ -25,7 +25,7 @@ pub struct ModuleParts {
 }
 
 impl ModuleParts {
-    /// Those of a module.
+    /// The numbers of a module.
     pub fn of(entry: &Module<'_>) -> ModuleParts
         ensures { result ≡ parts_in entry.now }
     {
@@ -44,9 +44,9 @@ impl ModuleParts {
 pub struct FileReader<'s> {
     alloc: Global,
     pdb: PDB<'s, FileSource>,
-    /// How many bytes might be copied and listed when the reader was made.
+    /// The numbers of bytes that might be copied and listed when the reader was made.
     whole: FileLimits,
-    /// How many more may be.
+    /// The numbers of bytes that may still be copied and listed.
     left: Mutex<FileLimits>,
 }
 
@@ -83,7 +83,7 @@ impl<'s> FileReader<'s> {
         self.pdb.source()
     }
 
-    /// A module's own stream, or why it can't be read. `OutOfMemory` alone, and then nothing is
+    /// A module's own stream, or the fault in reading it. `OutOfMemory` alone, and then nothing is
     /// counted. Where another thread reads at that time, the module is read within the limits as
     /// they stood at first, and isn't counted.
     pub fn read(&self, parts: ModuleParts) -> Result<KeptInfo<'s>>
@@ -98,8 +98,8 @@ impl<'s> FileReader<'s> {
         }
     }
 
-    /// A module's own stream, or why it can't be read, within these limits. `OutOfMemory` alone,
-    /// and then they stay as they are.
+    /// A module's own stream, or the fault in reading it, within these limits. `OutOfMemory` alone,
+    /// and then the limits stay as they are.
     #[tactic(auto, using(crate::proofs::FileSteps::info_given, crate::proofs::FileSteps::info_read, crate::proofs::OpenFiles::module_fails))]
     fn read_within(&self, left: &mut FileLimits, parts: ModuleParts) -> Result<KeptInfo<'s>>
         ensures { Gives (λ k. k) ⊥ result (Ok (kept_by self.now parts)) }
@@ -114,7 +114,7 @@ impl<'s> FileReader<'s> {
     }
 }
 
-/// The module information of a module, which another source of the database's bytes views.
+/// The module information of a module, whose bytes are views of another source of the database.
 #[tactic(auto, using(pdb_container::proofs::Outside::outside_alone), unfolding(pdb_symbols_modules::specs::DatabaseCalls::module_info, pdb_symbols_modules::specs::Shared::info_in))]
 fn read_parts<'s, S: Source + Drop, T: Source>(
     pdb: &PDB<'s, S>,

@@ -1,5 +1,5 @@
-//! What is held of a database: the streams that are read in the order of loading, the names of
-//! files and modules, and the modules' own streams.
+//! A database that is held: the streams that are read in the order of loading, the names of files
+//! and modules, and the modules' own streams.
 
 ghost use Rattle.std.specs.Prelude.{◌≡◌, IfOk, Ok};
 ghost use Rattle.pdb_frames.specs.PartsSeen.{Checks, ChecksInAnyOrder};
@@ -28,12 +28,12 @@ use pdb_symbols_modules::{DebugInformation, PDB};
 use std::alloc::Global;
 use std::marker::Model;
 
-/// What is held of a database: everything that contexts and formatters go over, read once. A file's
+/// A database that is held: everything that contexts and formatters go over, read once. A file's
 /// modules are read when they are first asked for.
 pub struct HeldDatabase<'s> {
     /// Stream 3 (DBI).
     pub debug_information: DebugInformation<'s>,
-    /// What is read after it.
+    /// The tables that are read after stream 3.
     pub tables: Tables<'s>,
     /// The names of files and modules (`/names`), if they can be read.
     pub names: Option<StringTable<'s>>,
@@ -74,8 +74,8 @@ impl<'s> Drop for HeldDatabase<'s> {
     }
 }
 
-/// Reads what comes after stream 3 and its tables: the module list, the modules' own streams and
-/// the names table.
+/// Reads all that comes after stream 3 and its tables: the module list, the modules' own streams
+/// and the names table.
 ///
 /// # Errors
 /// `UnexpectedEof` of the module list; `OutOfMemory`. The names table and the modules' own streams
@@ -102,8 +102,8 @@ pub fn read_after_tables<'s, S: Source + Drop>(
     })
 }
 
-/// Reads a database that is open: stream 3, what comes after it, and the module list, whose first
-/// fault is the answer; then the modules' own streams and the names table.
+/// Reads a database that is open: stream 3, its tables, and the module list, whose first fault is
+/// the answer; then the modules' own streams and the names table.
 ///
 /// # Errors
 /// The first fault of stream 3 and its header, of [`read_tables`], and of [`read_after_tables`].
@@ -121,8 +121,8 @@ pub fn read_database<'s, S: Source + Drop>(
     read_after_tables(pdb, alloc, debug_information, tables)
 }
 
-/// Reads what comes after stream 3 and its tables of a file, and holds the file: the module list
-/// and the names table. The modules' own streams are read when they are asked for.
+/// Reads all that comes after stream 3 and its tables of a file, and holds the file: the module
+/// list and the names table. The modules' own streams are read when they are asked for.
 ///
 /// # Errors
 /// `UnexpectedEof` of the module list; `OutOfMemory`. The names table is missing where it can't be
@@ -148,8 +148,8 @@ pub fn hold_after_tables<'s>(
     })
 }
 
-/// The names table of a file and its modules, by the list in stream 3, which was read. None of the
-/// modules' streams is read.
+/// The names table of a file and its modules, from the list in stream 3, which was read. None of
+/// the modules' streams is read.
 ///
 /// # Errors
 /// As [`hold_after_tables`].
@@ -206,8 +206,8 @@ fn read_in_any_order(
     Ok(())
 }
 
-/// Checks that what every question goes over can be had where section contributions may stand in
-/// any order, whatever the address map and the names are.
+/// Checks that the parts that every question goes over can be made where section contributions may
+/// stand in any order, whatever the address map and the names are.
 #[tactic(auto, using(crate::proofs::CheckedParts::as_checked))]
 fn check_in_any_order(
     alloc: Global,

@@ -1,10 +1,9 @@
 //! Loading a program database: the bytes of its file, and what is read of them once, in one order,
-//! before any question. `specs/Loading` says which order, and which fault is the first;
-//! [`load_file`] reads in it. The modules' own streams are read when they are first asked for
-//! ([`FileModules`]).
+//! before any question. `specs/Loading` states this order, and the first fault; [`load_file`] reads
+//! in it. The modules' own streams are read when they are first asked for ([`FileModules`]).
 //!
-//! How much is read at once, and what is shared, may change. In which order a file is read, and so
-//! which fault is its first (`specs/Loading`), may not.
+//! The amount that is read at once, and what is shared, may change. The order in which a file is
+//! read, and so its first fault (`specs/Loading`), may not.
 #![tactic(auto)]
 
 mod file_modules;

@@ -1,4 +1,4 @@
-//! Why a program database isn't loaded.
+//! The fault that keeps a program database from being loaded.
 
 ghost use Rattle.std.specs.Prelude.{◌≡◌};
 ghost use Rattle.pdb_container.specs.PrintedFault.{printed_text};
@@ -10,7 +10,8 @@ use pdb_resolving::Error;
 use std::alloc::{AllocError, AllocFailed};
 use std::fmt;
 
-/// Why a program database isn't loaded. `Pdb` prints what it holds, any other as its name.
+/// The fault that keeps a program database from being loaded. `Pdb` prints the error that it holds,
+/// any other its name.
 #[derive(Debug, Drop, PartialEq)]
 pub enum LoadFault {
     /// The file can't be read, for this cause, which is never out of memory.
@@ -66,7 +67,7 @@ impl<T: Drop> From<AllocFailed<T>> for LoadFault {
 impl std::error::Error for LoadFault {}
 
 impl LoadFault {
-    /// What the fault prints.
+    /// The text that the fault prints.
     pub fn printed(&self) -> PrintedFault<'_>
         ensures { printed_text result ≡ load_fault_text self.now }
     {
@@ -78,8 +79,8 @@ impl LoadFault {
     }
 }
 
-/// What a cause prints: of the container as it does there, any other its name and, in parentheses,
-/// its values.
+/// The text that a cause prints: an error of the container prints as it does there, any other its
+/// name and, in parentheses, its values.
 fn printed_cause(cause: &Error) -> PrintedFault<'_>
     ensures { printed_text result ≡ cause_text cause.now }
 {
@@ -114,7 +115,7 @@ fn printed_cause(cause: &Error) -> PrintedFault<'_>
     }
 }
 
-/// The name of an error without values; the text of others begins otherwise.
+/// The name of an error without values; the texts of other errors begin in other ways.
 fn plain_name(cause: &Error) -> &'static str
     ensures { HasPlainName cause.now result.now }
 {

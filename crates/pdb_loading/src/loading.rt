@@ -25,13 +25,13 @@ use std::marker::Model;
 type FileDatabase = PDB<'static, FileSource>;
 
 /// A file that was loaded: its bytes, the order in which its section contributions have to stand,
-/// and what is held of its database. Its value in contracts is the file's bytes, with that order.
+/// and its database, which is held. Its value in contracts is the file's bytes, with this order.
 pub struct LoadedFile {
     /// The file's bytes.
     pub file: FileSource,
-    /// In which order section contributions have to stand.
+    /// The order in which section contributions have to stand.
     pub order: ContributionOrder,
-    /// What contexts are made of.
+    /// The database, from which contexts are made.
     pub held: HeldDatabase<'static>,
 }
 
@@ -58,7 +58,7 @@ impl Drop for LoadedFile {
 }
 
 impl LoadedFile {
-    /// The file's bytes, and what is held of its database.
+    /// The file's bytes, and its database.
     pub fn into_parts(self) -> (FileSource, HeldDatabase<'static>)
         ensures file { result.0 ≡ self.bytes }
         ensures held { IsLoadedWith self.order result.0 result.1 }
@@ -84,8 +84,8 @@ fn check_order(map: &AddressMap<'_>) -> Result<(), LoadFault>
     Ok(())
 }
 
-/// Reads stream 3 and what comes after it. The first fault of these; `AddressTableDecreases`
-/// where the sources of an OMAP decrease; `OutOfMemory`.
+/// Reads stream 3 and its tables. The first fault of these; `AddressTableDecreases` where the
+/// sources of an OMAP decrease; `OutOfMemory`.
 fn read_in_order(
     alloc: Global,
     pdb: &mut FileDatabase,
@@ -104,7 +104,7 @@ fn read_in_order(
     }
 }
 
-/// Reads what contexts are made of, and checks that a context can be made.
+/// Reads everything from which contexts are made, and checks that a context can be made.
 fn read_held(
     alloc: Global,
     mut pdb: FileDatabase,
@@ -133,7 +133,7 @@ fn open_file(alloc: Global, file: &FileSource) -> Result<FileDatabase, LoadFault
 
 /// Opens the program database of a file's bytes and loads it: everything that keeps the file from
 /// being answered is found here, and what answers need is read, but for the modules' own streams:
-/// each is read when it is first asked for. Section contributions have to stand in that order.
+/// each is read when it is first asked for. Section contributions have to stand in this order.
 ///
 /// # Errors
 /// The first fault, in the order in which a file is read: the container; stream 3 and its header;

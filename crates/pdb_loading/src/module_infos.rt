@@ -21,20 +21,21 @@ use std::collections::BTreeMap;
 use std::marker::Model;
 use std::ops::Range;
 
-/// What is stored of a module: its own stream, where it has one, or why that can't be read.
+/// The stored information of a module: its own stream, where it has one, or the fault in reading
+/// it.
 pub type KeptInfo<'s> = std::result::Result<Option<ModuleInfo<'s>>, ModuleFault>;
 
 /// Modules in the order of the module list.
 #[derive(Drop)]
 enum ModuleStore<'s> {
-    /// Each was read.
+    /// Modules that were read.
     Read(Vec<KeptInfo<'s>>),
-    /// Each is read when it is first asked for.
+    /// Modules of which each is read when it is first asked for.
     OnDemand(FileModules<'s>),
 }
 
-/// The modules' own streams, in the order of the module list, each with its fault in its place. Of
-/// a file each is read when it is first asked for.
+/// The modules' own streams, in the order of the module list, each with its fault in its place. A
+/// file's modules are read when they are first asked for.
 #[derive(Drop)]
 pub struct KeptModules<'s> {
     modules: ModuleStore<'s>,
@@ -75,15 +76,15 @@ impl<'s> KeptModules<'s> {
 }
 
 impl<'s> KeptModules<'s> {
-    /// Asks for the modules with these indices, and answers nothing: of a file that is read on
-    /// demand, what they lack is wanted then.
+    /// Asks for the modules with these indices, and answers nothing: bytes that they lack of a file
+    /// that is read on demand are wanted then.
     pub fn ask(&self, numbers: Range<usize>) {
         if let ModuleStore::OnDemand(modules) = &self.modules {
             modules.ask(numbers);
         }
     }
 
-    /// How many modules there are.
+    /// The number of modules.
     pub fn len(&self) -> usize
         ensures { result ≡ length self.now }
     {
@@ -94,7 +95,7 @@ impl<'s> KeptModules<'s> {
     }
 }
 
-/// What is answered of a module by what is stored of it; a fault as `Kept`.
+/// The answer for a module, from its stored information; a fault as `Kept`.
 fn answer_of<'k, 's>(kept: Option<&'k KeptInfo<'s>>) -> Result<Option<&'k ModuleInfo<'s>>>
     ensures { Gives (λ info. option_copied info) ⊥ result
         (answered_if_listed (option_copied kept.entry)) }
@@ -159,7 +160,7 @@ pub(crate) fn keep<'s>(error: Error) -> Result<KeptInfo<'s>>
     }
 }
 
-/// A module's own stream, or why it can't be read. `OutOfMemory` alone.
+/// A module's own stream, or the fault in reading it. `OutOfMemory` alone.
 #[tactic(auto, using(crate::proofs::KeptSteps::info_kept, crate::proofs::KeptSteps::info_there, crate::proofs::OpenFiles::module_fails))]
 fn read_info<'s, S: Source + Drop>(
     pdb: &mut PDB<'s, S>,
@@ -180,7 +181,7 @@ fn read_info<'s, S: Source + Drop>(
 /// that names each.
 type ReadStreams<'s> = BTreeMap<u16, KeptInfo<'s>>;
 
-/// What is stored of a module, by what is stored of another one that names the same stream. Both
+/// The stored information of a module, from that of another one that names the same stream. Both
 /// share its bytes. `OutOfMemory` alone.
 fn share_info<'s>(kept: &KeptInfo<'s>, entry: &Module<'_>) -> Result<KeptInfo<'s>>
     ensures { Gives (λ k. k) ⊥ result (Ok (in_parts_of entry.now kept.now)) }
@@ -199,8 +200,8 @@ fn share_info<'s>(kept: &KeptInfo<'s>, entry: &Module<'_>) -> Result<KeptInfo<'s
     }
 }
 
-/// A module's own stream, or why it can't be read; a stream that another module named before isn't
-/// read again. `OutOfMemory` alone.
+/// A module's own stream, or the fault in reading it; a stream that another module named before
+/// isn't read again. `OutOfMemory` alone.
 fn keep_info<'s, S: Source + Drop>(
     pdb: &mut PDB<'s, S>,
     alloc: Global,
@@ -224,7 +225,7 @@ fn keep_info<'s, S: Source + Drop>(
     Ok(info)
 }
 
-/// The own streams of these modules, each or why it can't be read. `OutOfMemory` alone.
+/// The own streams of these modules, each or the fault in reading it. `OutOfMemory` alone.
 fn read_infos<'s, S: Source + Drop>(
     pdb: &mut PDB<'s, S>,
     alloc: Global,
@@ -242,8 +243,8 @@ fn read_infos<'s, S: Source + Drop>(
     Ok(infos)
 }
 
-/// The own streams of all modules of the list in stream 3, which was read; each or why it can't be
-/// read.
+/// The own streams of all modules of the list in stream 3, which was read; each or the fault in
+/// reading it.
 ///
 /// # Errors
 /// `UnexpectedEof` where the list isn't whole; `OutOfMemory`.

@@ -1,5 +1,5 @@
-//! Loading a file that is read on demand: what is missing is read, and the file is loaded again by
-//! what is there then.
+//! Loading a file that is read on demand: missing bytes are read, and the file is loaded again from
+//! those that are there then.
 
 ghost use Rattle.std.specs.Prelude.{◌≡◌, IfErr, IfOk, None, OnOk};
 ghost use Rattle.pdb_container.specs.PrintedFault.{printed_text};
@@ -25,15 +25,16 @@ use std::fmt;
 use std::io::{self, ErrorKind};
 use std::os::unix::fs::FileExt;
 
-/// How often loading goes on after it read what was missing. A file whose streams can be found
-/// takes some ten, as docs/COSTS.md has them; three times that bounds files that lead on and on.
+/// The number of times that loading goes on after it read what was missing. A file whose streams
+/// can be found takes some ten, as docs/COSTS.md has them; three times that bounds files that lead
+/// on and on.
 const ROUNDS: u32 = 32;
 
-/// Why a file that is read on demand isn't loaded. `Load` prints what it holds, and `File` its name
-/// and, in parentheses, its kind.
+/// The fault that keeps a file that is read on demand from being loaded. `Load` prints the fault
+/// that it holds, and `File` its name and, in parentheses, its kind.
 #[derive(Debug, Drop)]
 pub enum FileFault {
-    /// As of a file that is in memory.
+    /// A fault that a file in memory has, too.
     Load(LoadFault),
     /// The file couldn't be read.
     File(ErrorKind),
@@ -52,7 +53,7 @@ impl From<AllocError> for FileFault {
 }
 
 impl FileFault {
-    /// What the fault prints.
+    /// The text that the fault prints.
     pub fn printed(&self) -> PrintedFault<'_>
         ensures { printed_text result ≡ file_fault_text self.now }
     {
@@ -76,7 +77,7 @@ impl fmt::Display for FileFault {
 
 impl std::error::Error for FileFault {}
 
-/// How reading a file failed; out of memory has one name.
+/// The fault for an error in reading a file; out of memory has one name.
 fn read_fault(error: &io::Error) -> FileFault
     ensures { OnLoadFault result (λ cause. cause ≡ faults.OutOfMemory) }
 {
@@ -86,8 +87,8 @@ fn read_fault(error: &io::Error) -> FileFault
     }
 }
 
-/// Loads a file by what was read of it. What it lacks is noted as wanted, and is out of memory
-/// here.
+/// Loads a file from what was read of it. Bytes that it lacks are noted as wanted, and are out of
+/// memory here.
 ///
 /// # Errors
 /// As [`load_file`].
@@ -113,12 +114,12 @@ fn load_views(
     load_file(alloc, file, order)
 }
 
-/// A file that was loaded by what was read of it.
+/// A file that was loaded from what was read of it.
 #[derive(Drop)]
 pub struct LoadedViews {
     /// The file.
     pub loaded: LoadedFile,
-    /// What its modules lack once they are asked for.
+    /// The bytes that its modules lack once they are asked for.
     pub wanted: Wanted,
 }
 
@@ -160,10 +161,10 @@ pub fn load_on_demand<F: FileExt>(
     Err(FileFault::Load(LoadFault::OutOfMemory))
 }
 
-/// The modules of a file by what was read of it. What they lack is noted as wanted.
+/// The modules of a file from what was read of it. Bytes that they lack are noted as wanted.
 ///
 /// # Errors
-/// `OutOfMemory`, and those of a container where the file changed.
+/// `OutOfMemory`, and a container's errors where the file changed.
 #[tactic(auto, using(crate::proofs::OnDemand::bytes_agree))]
 pub fn modules_of_views(
     alloc: Global,

@@ -1,4 +1,4 @@
-//! What is read of a database besides its modules, in the order of loading.
+//! The tables that are read of a database besides its modules, in the order of loading.
 
 ghost use Rattle.std.specs.Prelude.{◌≡◌, Ok};
 ghost use Rattle.pdb_loading.specs.Held.{names_in};
@@ -16,7 +16,7 @@ use pdb_symbols_modules::{DebugInformation, PDB};
 use std::alloc::Global;
 use std::marker::Model;
 
-/// What is read after stream 3 (DBI): symbol records, types, ids, and the address map.
+/// The tables that are read after stream 3 (DBI): symbol records, types, ids, and the address map.
 pub struct Tables<'s> {
     /// The symbol records: public and global symbols of all modules.
     pub symbol_records: SymbolTable<'s>,
@@ -56,7 +56,7 @@ impl<'s> Drop for Tables<'s> {
     }
 }
 
-/// The symbol records, by what was read of stream 3.
+/// The symbol records, found by what was read of stream 3.
 #[tactic(auto, using(pdb_symbols_modules::proofs::SharedSteps::symbols_alike))]
 fn read_symbol_records<'s, S: Source + Drop>(
     pdb: &mut PDB<'s, S>,
@@ -70,7 +70,7 @@ fn read_symbol_records<'s, S: Source + Drop>(
     pdb.global_symbols_by(alloc, debug_information)
 }
 
-/// The address map, by what was read of stream 3.
+/// The address map, found by what was read of stream 3.
 #[tactic(auto, using(pdb_symbols_modules::proofs::SharedSteps::address_map_alike))]
 fn read_address_map<'s, S: Source + Drop>(
     pdb: &mut PDB<'s, S>,
@@ -84,12 +84,12 @@ fn read_address_map<'s, S: Source + Drop>(
     pdb.address_map_by(alloc, debug_information)
 }
 
-/// Reads what comes after stream 3: the symbol records, types, ids and address tables, in this
+/// Reads the tables after stream 3: the symbol records, types, ids and address tables, in this
 /// order.
 ///
 /// # Errors
-/// The first fault: `GlobalSymbolsNotFound` and those of the symbol records' stream; of types and
-/// ids with their headers; of the optional header, the section headers and the OMAPs.
+/// The first fault: `GlobalSymbolsNotFound` and the faults of the symbol records' stream; of types
+/// and ids with their headers; of the optional header, the section headers and the OMAPs.
 /// `OutOfMemory`.
 #[tactic(auto, using(pdb_container::proofs::Outside::outside_earlier, pdb_container::proofs::Outside::outside_later), unfolding(crate::specs::Loading::tables))]
 pub fn read_tables<'s, S: Source + Drop>(

@@ -1,5 +1,5 @@
--- What the code sees in a symbol, as the definitions say it, and its steps over sites and nested
--- procedures.
+-- The elements that the code sees in symbols, as the definitions state them, and its steps over
+-- sites and nested procedures.
 use Rattle.std.specs.Prelude.{ℕ, ◌+◌, Option, List, [], ◌∷◌, ◌++◌, length, nat_lt, if◌then◌else◌}
 use Rattle.std.specs.Prelude.{Result, Ok, Err}
 use Rattle.pdb_symbol_records.specs.Forms.{InlineSiteForm, inline_site_form}
@@ -7,7 +7,7 @@ use Rattle.pdb_module_data.specs.Forest as forest
 use Rattle.pdb_module_data.specs.declared.inline_sites.Element.{Element}
 use Rattle.pdb_module_data.specs.declared.inline_sites.Element.TheVariants as elements
 
--- what a symbol is in a body, by what the code read of it
+-- the code's element, as the definitions see it
 abbrev pub element_seen : Element → forest.Element
 element_seen (elements.Call call) = forest.Call (inline_site_form call)
 element_seen (elements.Nested end) = forest.Nested end
@@ -20,7 +20,7 @@ nested_past bytes index last =
     else Err forest.Unsuccessful
 
 -- the number of one more site, which lies directly in a body below so many others, and the sites
--- with it
+-- with that one
 abbrev pub with_site : List forest.Site → Option ℕ → ℕ → InlineSiteForm
     → Result (ℕ × List forest.Site) forest.SitesFault
 with_site sites parent below call =

@@ -1,6 +1,6 @@
 -- The inline sites of a procedure, by a grammar over the places of its symbols.
--- Which symbol closes a scope follows the pdb-addr2line crate; here an end that leads backward is
--- refused.
+-- The rule by which a symbol closes a scope is the pdb-addr2line crate's; here an end that leads
+-- backward is refused.
 use Rattle.std.specs.Prelude.{◌≡◌, ℕ, zero, suc, ◌+◌, ◌<◌, ◌≤◌, Option, Some, None, List, [], ◌∷◌}
 use Rattle.std.specs.Prelude.{◌++◌, length, nat_le, nat_lt, if◌then◌else◌, Result, Ok, Err}
 use Rattle.pdb_container.specs.Fault.{Fault, ◌>>=◌}
@@ -9,8 +9,8 @@ use Rattle.pdb_symbol_records.specs.Forms.{SymbolForm, InlineSiteForm}
 use Rattle.pdb_symbol_records.specs.Records.{symbol_form_of}
 use Rattle.pdb_symbol_records.specs.Symbols.{Symbol, next}
 
--- why sites can't be read: a symbol can't be found; or a nested procedure doesn't end after its own
--- symbol, or sites lie in one another too deep
+-- the fault of sites that can't be read: a symbol can't be found; or a nested procedure doesn't end
+-- after its own symbol, or sites lie in one another too deep
 pub data SitesFault : Type 0 where
   InSymbols : Fault → SitesFault
   Unsuccessful : SitesFault
@@ -20,23 +20,24 @@ pub data Forest : Type 0 where
   Empty : Forest
   Tree : (call : InlineSiteForm) → (inner : Forest) → (after : Forest) → Forest
 
--- what a symbol is in a body: an inline site, a nested procedure by its end, or another one
+-- the element that a symbol is in a body: an inline site, a nested procedure by its end, or another
+-- one
 pub data Element : Type 0 where
   Call : InlineSiteForm → Element
   Nested : ℕ → Element
   Plain : Element
 
--- what a symbol is in a body, by what it says
+-- the element that a symbol is in a body, from its form
 abbrev pub element_said : Result SymbolForm Fault → Element
 element_said (Ok (forms.InlineSite call)) = Call call
 element_said (Ok (forms.Procedure p)) = Nested p.end.0
 element_said other = Plain
 
--- what a symbol is in a body
+-- the element that a symbol is in a body
 abbrev pub element_of : Symbol → Element
 element_of s = element_said (symbol_form_of s)
 
--- the place after what was found; the list's end where nothing was
+-- the place after a symbol that was found; the list's end where none was
 abbrev pub behind_found : List ℕ → Result (Option (Symbol × ℕ)) Fault → Result ℕ Fault
 behind_found bytes (Ok (Some found)) = Ok found.1
 behind_found bytes (Ok None) = Ok (length bytes)
@@ -54,7 +55,7 @@ pub data Body (bytes : List ℕ) : ℕ → ℕ → ℕ → Forest → ℕ → Ty
   -- the list's end closes a body
   ended : (limit depth place : ℕ) → next bytes place ≡ Ok None
       → Body bytes limit depth place Empty (length bytes)
-  -- so does a symbol at the limit or past it, whatever it is
+  -- a symbol at the limit or past it closes one, too, whatever the symbol is
   closed : (limit depth place : ℕ) (s : Symbol) (behind : ℕ)
       → next bytes place ≡ Ok (Some (s, behind)) → limit ≤ s.index
       → Body bytes limit depth place Empty behind
@@ -76,7 +77,7 @@ pub data Body (bytes : List ℕ) : ℕ → ℕ → ℕ → Forest → ℕ → Ty
       → Body bytes limit depth middle after end
       → Body bytes limit depth place (Tree call inner after) end
 
--- ---- the grammar as a function, with the fault of what can't be read
+-- ---- the grammar as a function, with its fault
 
 -- a fault of the symbols
 abbrev pub in_symbols : {A : Type 0} → Result A Fault → Result A SitesFault
@@ -89,8 +90,8 @@ abbrev pub tree_read : InlineSiteForm → Result (Forest × ℕ) SitesFault
 tree_read call inner after =
     inner >>= λ below. after below.1 >>= λ others. Ok (Tree call below.0 others.0, others.1)
 
--- the body from an element on, by what reads the bodies after it, each by its limit, its depth and
--- its place
+-- the body from an element on, by a reading of the bodies after it, each by its limit, its depth
+-- and its place
 abbrev pub element_read : List ℕ → Symbol → ℕ → Element → ℕ → ℕ
     → (ℕ → ℕ → ℕ → Result (Forest × ℕ) SitesFault) → Result (Forest × ℕ) SitesFault
 element_read bytes s behind Plain limit depth read = read limit depth behind
@@ -102,7 +103,7 @@ element_read bytes s behind (Call call) limit depth read =
     then tree_read call (read call.end.0 (depth + 1) behind) (read limit depth)
     else Err Unsuccessful
 
--- the body from what was found on
+-- the body from a symbol that was found on
 abbrev pub body_found : List ℕ → Result (Option (Symbol × ℕ)) Fault → ℕ → ℕ
     → (ℕ → ℕ → ℕ → Result (Forest × ℕ) SitesFault) → Result (Forest × ℕ) SitesFault
 body_found bytes (Ok None) limit depth read = Ok (Empty, length bytes)
@@ -118,14 +119,14 @@ body_within zero bytes limit depth place = Ok (Empty, length bytes)
 body_within (suc steps) bytes limit depth place =
     body_found bytes (next bytes place) limit depth (body_within steps bytes)
 
--- the body with a limit, at a depth, from a place on, and where it ends
+-- the body with a limit, at a depth, from a place on, and the place at which it ends
 unfoldable pub body : List ℕ → ℕ → ℕ → ℕ → Result (Forest × ℕ) SitesFault
 body bytes limit depth place = body_within (length bytes + 1) bytes limit depth place
 
 -- ---- sites in order
 
--- an inline site: its symbol's fields, the number of the site that it lies in, if any, and how deep
--- it lies, from 1 on
+-- an inline site: its symbol's fields, the number of the site that it lies in, if any, and its
+-- depth, from 1 on
 pub record Site : Type 0 where
   pub call : InlineSiteForm
   pub parent : Option ℕ
@@ -150,7 +151,7 @@ IsForest bytes limit start sites =
 abbrev pub sites_from : List ℕ → ℕ → ℕ → Result (List Site) SitesFault
 sites_from bytes limit start = body bytes limit 0 start >>= λ read. Ok (numbered None 1 0 read.0)
 
--- the sites of the procedure whose symbol has this index and that ends at that one: those after its
--- symbol and before its end
+-- the sites of the procedure whose symbol has this index and that ends at that one: the sites after
+-- its symbol and before its end
 abbrev pub sites_of : List ℕ → ℕ → ℕ → Result (List Site) SitesFault
 sites_of bytes index end = in_symbols (past bytes index) >>= sites_from bytes end

@@ -1,6 +1,6 @@
 -- The line of a place in a function, and the names of source files.
--- That a function's lines are those of the last subsection at or before its start is what the pdb
--- crate does.
+-- The rule that a function's lines are those of the last subsection at or before its start is the
+-- pdb crate's.
 use Rattle.std.specs.Prelude.{ℕ, List, [], ◌∷◌, map, nat_le, nat_lt, Option, None, Some}
 use Rattle.std.specs.Prelude.{if◌then◌else◌, Result, Ok, Err}
 use Rattle.pdb_container.specs.Fault.{Fault, ◌>>=◌}
@@ -16,7 +16,7 @@ use Rattle.pdb_lines.specs.LineMarks.{marks_of}
 use Rattle.pdb_lines.specs.LineRows.{lines_for, rows_of, subsection_numbered}
 use Rattle.pdb_module_data.specs.declared.function_rows.LineRow.{LineRow}
 
--- what is stored of a row: all that an answer needs
+-- the stored row: all that an answer needs
 abbrev pub row_of : LineInfo → LineRow
 row_of row = record {
   start = (row.offset).offset;
@@ -35,7 +35,7 @@ later_row (Some a) (Some b) = if nat_lt b.start a.start then Some a else Some b
 abbrev pub if_begun : LineRow → ℕ → Option LineRow
 if_begun row offset = if nat_le row.start offset then Some row else None
 
--- of the rows that begin at an offset or before it the one with the greatest start, of equals the
+-- the row with the greatest start among those that begin at an offset or before it, of equals the
 -- last
 abbrev pub row_at : List LineRow → ℕ → Option LineRow
 row_at [] offset = None
@@ -52,7 +52,7 @@ numbered_rows program number =
     whole (rows_of (marks_of (subsection_numbered program number))) >>= λ rows.
     Ok (map row_of rows)
 
--- where rows begin
+-- the starts of rows
 abbrev pub row_starts : List LineRow → List ℕ
 row_starts rows = map (λ row. row.start) rows
 
@@ -62,7 +62,7 @@ abbrev pub function_row : Program → PdbInternalSectionOffset → PdbInternalSe
 function_row program start place =
     function_rows program start >>= λ rows. Ok (row_at rows place.offset)
 
--- what was read, if it could be
+-- the value that was read, if it could be
 abbrev pub if_read : {A : Type 0} → Result A Fault → Option A
 if_read (Ok x) = Some x
 if_read (Err e) = None

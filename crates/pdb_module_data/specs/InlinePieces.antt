@@ -1,5 +1,5 @@
 -- Pieces of places for the inline sites of a procedure: at each place the number of the deepest
--- site over it; and what is stored of their rows.
+-- site over it; and the stored rows of the sites.
 use Rattle.std.specs.Prelude.{◌≡◌, ℕ, ◌+◌, ◌-◌, ◌^◌, ◌<◌, ◌≤◌, Bool, ◌&&◌, ◌==◌, nat_le, nat_lt}
 use Rattle.std.specs.Prelude.{List, [], ◌∷◌, ◌++◌, map, length, take, drop, slice_index, unwrap_or}
 use Rattle.std.specs.Prelude.{Option, None, Some, option_map, if◌then◌else◌}
@@ -21,7 +21,7 @@ use Rattle.pdb_module_data.specs.declared.inlined_calls.InlinedCall.{InlinedCall
 use Rattle.pdb_module_data.specs.Forest.{Site}
 use Rattle.pdb_module_data.specs.InlinedCalls.{deepest, has_length, RowsOfCalls}
 
--- what is stored of a row: all that an answer needs, if the row covers anything
+-- the stored row: all that an answer needs, if the row covers anything
 abbrev pub kept_of : LineInfo → List CallRow
 kept_of row =
     if has_length row
@@ -33,22 +33,22 @@ kept_of row =
     } ∷ []
     else []
 
--- what is stored of rows
+-- the stored rows
 abbrev pub kept_rows : List LineInfo → List CallRow
 kept_rows rows = flat_map kept_of rows
 
--- what is stored of the rows of sites, one after another
+-- the stored rows of sites, one after another
 abbrev pub rows_of_sites : (InlineSiteForm → List LineInfo) → List Site → List CallRow
 rows_of_sites rows sites = flat_map (λ site. kept_rows (rows site.call)) sites
 
--- where what is stored of the rows of each site starts, of which the first starts at a number; and
--- where that of the last one ends
+-- the starts of the stored rows of each site, of which the first starts at a number; and the end of
+-- the last site's rows
 abbrev pub starts_of_sites : (InlineSiteForm → List LineInfo) → ℕ → List Site → List ℕ
 starts_of_sites rows from [] = from ∷ []
 starts_of_sites rows from (site ∷ sites) =
     from ∷ starts_of_sites rows (from + length (kept_rows (rows site.call))) sites
 
--- a fact of sites and of the rows of calls, if these rows and starts are what is stored of them
+-- a fact of sites and of the rows of calls, if these are their stored rows and starts
 abbrev pub IfStored : List CallRow → List ℕ → List Site → (RowsOfCalls → List Site → Type 0)
     → Type 0
 IfStored rows starts sites Fact =
@@ -59,17 +59,17 @@ IfStored rows starts sites Fact =
 abbrev pub rows_between : List CallRow → ℕ → ℕ → List CallRow
 rows_between rows from to = take (to - from) (drop from rows)
 
--- the rows of the site with a number, by where those of each site start
+-- the rows of the site with a number, from the starts of the rows of each site
 abbrev pub rows_at : List CallRow → List ℕ → ℕ → List CallRow
 rows_at rows starts number =
     rows_between rows (slice_index starts number) (slice_index starts (number + 1))
 
--- where a row begins, and where it ends: at 2^32 at the latest
+-- the start of a row, and its end: at 2^32 at the latest
 abbrev pub row_cuts : CallRow → List ℕ
 row_cuts row =
     (row.offset).offset ∷ min ((row.offset).offset + row.length) (2 ^ 32) ∷ []
 
--- where rows begin and end
+-- the starts and ends of rows
 abbrev pub cuts_of : List CallRow → List ℕ
 cuts_of rows = flat_map row_cuts rows
 
@@ -79,7 +79,7 @@ pub record AreCut (sites : ℕ) (starts : List ℕ) (rows : ℕ) : Type 0 where
   pub ascend : (k : ℕ) → k < sites → slice_index starts k ≤ slice_index starts (k + 1)
   pub bound : (k : ℕ) → k < sites → slice_index starts (k + 1) ≤ rows
 
--- what a row of the site with a number covers, ranked by the site's depth
+-- the span that a row of the site with a number covers, ranked by the site's depth
 abbrev pub site_row_span : ℕ → ℕ → CallRow → Span
 site_row_span number depth row = record {
   start = place_number row.offset;
@@ -87,14 +87,14 @@ site_row_span number depth row = record {
   mark = record { rank = depth; value = number };
 }
 
--- what sites cover by their rows, of which the first has this number
+-- the spans that sites cover by their rows, of which the first has this number
 abbrev pub site_spans : (InlineSiteForm → List LineInfo) → ℕ → List Site → List Span
 site_spans rows number [] = []
 site_spans rows number (site ∷ sites) =
     map (site_row_span number site.depth) (kept_rows (rows site.call))
     ++ site_spans rows (number + 1) sites
 
--- spans are what sites cover by their rows
+-- these are the spans that sites cover by their rows
 abbrev pub AreSpansOf : List Span → RowsOfCalls → List Site → Type 0
 AreSpansOf spans rows sites = spans ≡ site_spans rows 0 sites
 
@@ -102,12 +102,12 @@ AreSpansOf spans rows sites = spans ≡ site_spans rows 0 sites
 abbrev pub IsShortRow : CallRow → Type 0
 IsShortRow row = ((row.offset).offset < 2 ^ 32) × (row.length < 2 ^ 32)
 
--- each row is so short
+-- the start and length of each row have 32 bits
 abbrev pub AreShortRows : List CallRow → Type 0
 AreShortRows [] = Unit {0}
 AreShortRows (row ∷ rows) = IsShortRow row × AreShortRows rows
 
--- the rows of each site are so short
+-- the start and length of each row of each site have 32 bits
 abbrev pub AreShortSites : (InlineSiteForm → List LineInfo) → List Site → Type 0
 AreShortSites rows [] = Unit {0}
 AreShortSites rows (site ∷ sites) =
@@ -126,7 +126,7 @@ AreApart low [] = Unit {0}
 AreApart low (row ∷ rows) =
     (low ≤ place_number row.offset) × AreApart (place_number row.offset + row.length) rows
 
--- what rows cover, of which the first has this number, all of one rank
+-- the spans that rows cover, of which the first has this number, all of one rank
 abbrev pub row_spans : ℕ → List CallRow → List Span
 row_spans number [] = []
 row_spans number (row ∷ rows) = site_row_span number 0 row ∷ row_spans (number + 1) rows
@@ -154,11 +154,11 @@ pub record AddsFound (old new : BTreeMap ℕ (List Span)) (number : ℕ) (rows :
   pub own : get nat_cmp old number ≡ None → AreFound rows (get nat_cmp new number)
   pub others : (k : ℕ) → k ≢ number → get nat_cmp new k ≡ get nat_cmp old k
 
--- a row's code, by what is stored of it
+-- a row's code, from the stored row
 abbrev pub kept_code : CallRow → CodeSpan
 kept_code row = record { offset = row.offset; length = row.length }
 
--- a call by the row that is over a place, else by its first row
+-- a call by the row that is over a place, or else by its first row
 abbrev pub call_by_kept : IdIndex → Option CallRow → List CallRow → InlinedCall
 call_by_kept id (Some row) rows = record {
   inlinee = id;
@@ -170,7 +170,7 @@ call_by_kept id None [] = record { inlinee = id; file = None; line = None; row =
 call_by_kept id None (first ∷ rows) =
     record { inlinee = id; file = Some first.file_index; line = None; row = None }
 
--- the sites of a procedure, what is stored of their rows, where those of each start, and pieces for
+-- the sites of a procedure, their stored rows, the starts of the rows of each site, and pieces for
 -- a search among them, unless they are few
 pub record Ranges : Type 0 where
   pub sites : List Site
@@ -190,8 +190,8 @@ abbrev pub StandForDeepest : (InlineSiteForm → List LineInfo) → List Site �
 StandForDeepest rows sites None = Unit {0}
 StandForDeepest rows sites (Some pieces) = HaveDeepest rows sites pieces
 
--- By the rows of calls, pieces have the deepest sites if there are pieces, and what is stored is
--- that of the rows of each site.
+-- By the rows of calls, pieces have the deepest sites if there are pieces, and the stored rows are
+-- those of each site.
 pub record StandForSites (rows : InlineSiteForm → List LineInfo) (ranges : Ranges) : Type 0 where
   pub pieces : StandForDeepest rows ranges.sites ranges.pieces
   pub kept : ranges.rows ≡ rows_of_sites rows ranges.sites

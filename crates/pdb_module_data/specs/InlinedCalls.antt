@@ -25,7 +25,7 @@ use Rattle.pdb_module_data.specs.Forest.{Site}
 
 -- ---- rows
 
--- what gives the rows of a call
+-- the rows of each call
 abbrev pub RowsOfCalls : Type 0
 RowsOfCalls = InlineSiteForm → List LineInfo
 
@@ -44,25 +44,24 @@ last_inlinee (function ∷ functions) id =
 abbrev pub inlinees_by_id : Listing InlinedFunction → Result (ℕ → Option InlinedFunction) Fault
 inlinees_by_id functions = whole functions >>= λ all. Ok (last_inlinee all)
 
--- the inlined functions that are stored
+-- the stored inlined functions
 abbrev pub given_by : Inlinees → ℕ → Option InlinedFunction
 given_by inlinees id = option_map inlined_function (get nat_cmp inlinees.by_id id)
 
--- the rows of a call by its inlined function; none without one. Rows before an annotation that
+-- the rows of a call from its inlined function; no rows without one. Rows before an annotation that
 -- can't be read count, but for the last of them.
 abbrev pub rows_by : Option InlinedFunction → PdbInternalSectionOffset → InlineSiteForm
     → List LineInfo
 rows_by None start call = []
 rows_by (Some function) start call = (inlined_rows start function call.annotations).items
 
--- the rows of a call in the procedure that begins at a place, by what gives inlined functions by
--- their ids
+-- the rows of a call in the procedure that begins at a place, from the inlined functions by their
+-- ids
 abbrev pub call_rows : (ℕ → Option InlinedFunction) → PdbInternalSectionOffset → InlineSiteForm
     → List LineInfo
 call_rows inlinee start call = rows_by (inlinee (call.inlinee).0) start call
 
--- the rows of calls in the procedure that begins at a place, by the inlined functions that are
--- stored
+-- the rows of calls in the procedure that begins at a place, from the stored inlined functions
 abbrev pub stored_rows : Inlinees → PdbInternalSectionOffset → RowsOfCalls
 stored_rows inlinees start = call_rows (given_by inlinees) start
 
@@ -85,7 +84,7 @@ deeper None b = b
 deeper (Some a) None = Some a
 deeper (Some a) (Some b) = if nat_lt a.1 b.1 then Some b else Some a
 
--- of the sites from a number on that are over the place the deepest one, of equals the first
+-- the deepest of the sites from a number on that are over the place, of equals the first
 abbrev pub deepest_from : (InlineSiteForm → List LineInfo) → PdbInternalSectionOffset → ℕ
     → List Site → Option (ℕ × ℕ)
 deepest_from rows place number [] = None
@@ -123,7 +122,7 @@ abbrev pub FindsDeepest : RowsOfCalls → List Site → PdbInternalSectionOffset
 FindsDeepest rows sites place =
     (number : ℕ) → deepest rows sites place ≡ Some number → IsDeepest rows sites place number
 
--- where no site is found over the place, none is over it
+-- no site is over the place where none is found over it
 abbrev pub MissesNone : RowsOfCalls → List Site → PdbInternalSectionOffset → Type 0
 MissesNone rows sites place = deepest rows sites place ≡ None → NoneOver rows place sites
 
@@ -133,7 +132,7 @@ IsDepthOfFound rows sites place =
     (number : ℕ) (site : Site) → deepest rows sites place ≡ Some number
     → slice_get sites number ≡ Some site → depth_over rows sites place ≡ site.depth
 
--- ---- a site and those that it lies in
+-- ---- a site and the sites that it lies in
 
 -- a site in no other has depth 1, another one lies one deeper than its parent, which comes before
 -- it
@@ -151,15 +150,15 @@ pub record IsNested (sites : List Site) : Type 0 where
 abbrev pub parent_of : List Site → ℕ → Option ℕ
 parent_of sites number = option_and_then (λ s. s.parent) (slice_get sites number)
 
--- a site that may be there and those that it lies in, innermost first, at most so many
+-- a site that may be there and the sites that it lies in, innermost first, at most so many
 abbrev pub chain_from : List Site → ℕ → Option ℕ → List ℕ
 chain_from sites steps None = []
 chain_from sites zero (Some number) = []
 chain_from sites (suc steps) (Some number) =
     number ∷ chain_from sites steps (parent_of sites number)
 
--- a site and those that it lies in, innermost first; each has a lesser number, so that there are no
--- more
+-- a site and the sites that it lies in, innermost first; each has a lesser number than the one
+-- before it, so that there are no more
 abbrev pub chain : List Site → ℕ → List ℕ
 chain sites number = chain_from sites (suc number) (Some number)
 
@@ -173,7 +172,7 @@ has_length row = nat_lt 0 (unwrap_or row.length 0)
 abbrev pub code_of : LineInfo → CodeSpan
 code_of row = record { offset = row.offset; length = unwrap_or row.length 0 }
 
--- a call by its first row over the place, else by its first row that has a length
+-- a call by its first row over the place, or else by its first row that has a length
 abbrev pub call_by : IdIndex → Option LineInfo → Option LineInfo → InlinedCall
 call_by id (Some row) long = record {
   inlinee = id;
@@ -188,7 +187,7 @@ call_by id None long = record {
   row = None;
 }
 
--- a call over a place: file, line and code of its first row over the place; else the file of its
+-- a call over a place: file, line and code of its first row over the place; or else the file of its
 -- first row that has a length, no line and no code
 abbrev pub call_over : (InlineSiteForm → List LineInfo) → PdbInternalSectionOffset → InlineSiteForm
     → InlinedCall
@@ -201,20 +200,20 @@ abbrev pub calls_of : (InlineSiteForm → List LineInfo) → PdbInternalSectionO
 calls_of rows place None = []
 calls_of rows place (Some site) = call_over rows place site.call ∷ []
 
--- a site's number that may be there, and those of the sites that it lies in
+-- a site's number that may be there, and the numbers of the sites that it lies in
 abbrev pub chain_at : List Site → Option ℕ → List ℕ
 chain_at sites None = []
 chain_at sites (Some number) = chain sites number
 
--- the calls over a place, innermost first: that of the deepest site over it, and those of the sites
--- that it lies in
+-- the calls over a place, innermost first: the call of the deepest site over it, and the calls of
+-- the sites that it lies in
 abbrev pub calls_over : (InlineSiteForm → List LineInfo) → List Site → PdbInternalSectionOffset
     → List InlinedCall
 calls_over rows sites place =
     flat_map (λ number. calls_of rows place (slice_get sites number))
     (chain_at sites (deepest rows sites place))
 
--- these are the calls of a site and of those that it lies in, if sites lie in sites before them
+-- these are the calls of a site and of the sites that it lies in, if sites lie in sites before them
 abbrev pub AreCallsFrom : List InlinedCall → PdbInternalSectionOffset → ℕ → RowsOfCalls → List Site
     → Type 0
 AreCallsFrom calls place number rows sites =

@@ -8,7 +8,7 @@ use Rattle.pdb_pieces.specs.declared.span.Span.{Span}
 use Rattle.pdb_pieces.specs.Spans.{best, place_number}
 use Rattle.pdb_module_data.specs.Procedures.{Procedure, over}
 
--- what a procedure covers, ranked by its start
+-- the span that a procedure covers, ranked by its start
 abbrev pub procedure_span : ℕ → Procedure → Span
 procedure_span number q = record {
   start = place_number q.offset;
@@ -16,7 +16,7 @@ procedure_span number q = record {
   mark = record { rank = (q.offset).offset; value = number };
 }
 
--- what procedures cover, of which the first has this number
+-- the spans that procedures cover, of which the first has this number
 abbrev pub procedure_spans : ℕ → List Procedure → List Span
 procedure_spans number [] = []
 procedure_spans number (q ∷ others) = procedure_span number q ∷ procedure_spans (number + 1) others
@@ -25,7 +25,7 @@ procedure_spans number (q ∷ others) = procedure_span number q ∷ procedure_sp
 abbrev pub IsShort : Procedure → Type 0
 IsShort q = ((q.offset).offset < 2 ^ 32) × (q.len < 2 ^ 32)
 
--- each is so short
+-- start and length of each procedure have 32 bits
 abbrev pub AreShort : List Procedure → Type 0
 AreShort [] = Unit {0}
 AreShort (q ∷ others) = IsShort q × AreShort others

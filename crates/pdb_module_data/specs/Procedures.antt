@@ -1,6 +1,6 @@
 -- The procedures of a module, and the one over a place.
--- What counts as a procedure, and that separated code goes by the one before it, is what the
--- pdb-addr2line crate does.
+-- The rules by which symbols count as procedures, and by which separated code goes by the procedure
+-- before it, are the pdb-addr2line crate's.
 use Rattle.std.specs.Prelude.{◌≡◌, ℕ, ◌+◌, ◌<◌, Bool, ◌&&◌, ◌||◌, List, [], ◌∷◌, ◌++◌, nat_lt, nat_le, ◌==◌}
 use Rattle.std.specs.Prelude.{Option, None, Some, if◌then◌else◌, Result, Ok}
 use Rattle.std.specs.BTreeSet.{BTreeSet, contains as has_element}
@@ -22,8 +22,8 @@ use Rattle.pdb_symbol_records.specs.Records.{symbol_form_of}
 use Rattle.pdb_symbol_records.specs.Symbols.{Symbol}
 use Rattle.pdb_module_data.specs.Forest.{Site, SitesFault, sites_of}
 
--- a procedure of a module: its symbol and the symbol that ends it, where its code begins, how many
--- bytes of code it has, the index of its type, and its name
+-- a procedure of a module: its symbol and the symbol that ends it, the start of its code, the
+-- number of bytes of code, the index of its type, and its name
 pub record Procedure : Type 0 where
   pub symbol_index : SymbolIndex
   pub end_symbol_index : SymbolIndex
@@ -38,8 +38,8 @@ is_at a b = (a.section == b.section) && (a.offset == b.offset)
 
 -- ---- the procedures that are taken
 
--- separated code by the procedure that was taken last: it has that one's name and type, if that one
--- begins at its parent's place
+-- separated code by the procedure that was taken last: it has that procedure's name and type, if
+-- the procedure begins at the place of the code's parent
 abbrev pub separated_from : Option Procedure → ℕ → SeparatedCodeSymbol → Option Procedure
 separated_from None index code = None
 separated_from (Some q) index code =
@@ -58,7 +58,7 @@ separated_from (Some q) index code =
 abbrev pub is_procedure_kind : ℕ → Bool
 is_procedure_kind kind = is_procedure kind || is_thunk kind || is_separated_code kind
 
--- what a symbol says as a procedure, after the procedure that was taken last; a thunk has type 0
+-- a symbol's form as a procedure, after the procedure that was taken last; a thunk has type 0
 abbrev pub said_procedure : Option Procedure → ℕ → Result SymbolForm Fault → Option Procedure
 said_procedure last index (Ok (forms.Procedure p)) =
     Some record {
@@ -81,7 +81,7 @@ said_procedure last index (Ok (forms.Thunk t)) =
 said_procedure last index (Ok (forms.SeparatedCode code)) = separated_from last index code
 said_procedure last index other = None
 
--- what a symbol says as a procedure, by its bytes
+-- a symbol as a procedure, from its bytes
 abbrev pub said_by : Option Procedure → Symbol → Option Procedure
 said_by last s = said_procedure last s.index (symbol_form_of s)
 
@@ -95,7 +95,7 @@ with_code (Some q) = if q.len == 0 then None else Some q
 abbrev pub kept_of : Option Procedure → Symbol → Option Procedure
 kept_of last s = with_code (said_by last s)
 
--- a procedure that may be taken, and those after it by the one that is taken last then
+-- a procedure that may be taken, and the procedures after it, by the one that is then taken last
 abbrev pub kept_before : Option Procedure → Option Procedure → (Option Procedure → List Procedure)
     → List Procedure
 kept_before None last others = others last
@@ -107,7 +107,7 @@ kept_behind last [] = []
 kept_behind last (s ∷ symbols) =
     kept_before (kept_of last s) last (λ kept. kept_behind kept symbols)
 
--- ---- of one start the first
+-- ---- the first procedure of each start
 
 -- places by section and then by offset
 abbrev pub place_cmp : ℕ × ℕ → ℕ × ℕ → Ordering
@@ -122,17 +122,17 @@ abbrev pub AreStartsOf : BTreeSet (ℕ × ℕ) → List Procedure → Type 0
 AreStartsOf starts procedures = (p : PdbInternalSectionOffset)
     → has_element place_cmp starts (p.section, p.offset) ≡ has_start procedures p
 
--- one more procedure, unless one of its start is there
+-- one more procedure, unless another one of its start is there
 
 abbrev pub onto_new : List Procedure → Procedure → List Procedure
 onto_new procedures q = if has_start procedures q.offset then procedures else procedures ++ q ∷ []
 
--- procedures, and of others after them those that begin where none did before
+-- procedures, and those of others after them that begin where no procedure did before
 abbrev pub firsts_onto : List Procedure → List Procedure → List Procedure
 firsts_onto procedures [] = procedures
 firsts_onto procedures (q ∷ others) = firsts_onto (onto_new procedures q) others
 
--- the number of the first procedure that begins there; how many there are, if none does
+-- the number of the first procedure that begins there; the number of all procedures, if none does
 abbrev pub first_number : List Procedure → PdbInternalSectionOffset → ℕ
 first_number procedures p = position_or_len (λ q. is_at q.offset p) procedures
 
@@ -146,7 +146,7 @@ abbrev pub StandsBefore : List Procedure → Procedure → Procedure → Type 0
 StandsBefore procedures a b =
     first_number procedures a.offset < first_number procedures b.offset
 
--- the procedures among symbols: those that are taken, of one start the first
+-- the procedures among symbols: those that are taken, the first of each start
 abbrev pub procedures_among : List Symbol → List Procedure
 procedures_among symbols = firsts_onto [] (kept_behind None symbols)
 
@@ -172,12 +172,12 @@ later None b = b
 later (Some a) None = Some a
 later (Some a) (Some b) = if nat_lt (a.offset).offset (b.offset).offset then Some b else Some a
 
--- of the procedures that contain the place the one with the greatest start
+-- the procedure with the greatest start among those that contain the place
 abbrev pub over : List Procedure → PdbInternalSectionOffset → Option Procedure
 over [] p = None
 over (q ∷ others) p = later (if_over q p) (over others p)
 
--- ---- its inline sites
+-- ---- inline sites of a procedure
 
 -- the inline sites of a procedure of a module with these symbols
 abbrev pub sites_of_procedure : List ℕ → Procedure → Result (List Site) SitesFault

@@ -1,4 +1,4 @@
--- How the line rows of a function are searched: as they stand where they ascend, else by pieces of
+-- The search of a function's line rows: as they stand where they ascend, otherwise by pieces of
 -- offsets with the number of the row at each, and by their starts in ascending order.
 use Rattle.std.specs.Prelude.{◌≡◌, ℕ, ◌+◌, ◌^◌, ◌<◌, ◌≤◌, List, [], ◌∷◌, ◌++◌, slice_get}
 use Rattle.std.specs.Prelude.{Option, None, Some, option_and_then}
@@ -10,7 +10,7 @@ use Rattle.pdb_pieces.specs.Spans.{best}
 use Rattle.pdb_module_data.specs.declared.function_rows.LineRow.{LineRow}
 use Rattle.pdb_module_data.specs.FunctionLine.{row_at, row_starts}
 
--- what a row covers: the offsets from its own on, of 32 bits; ranked by its own
+-- the span that a row covers: the offsets from its own on, of 32 bits; ranked by its own
 abbrev pub row_span : ℕ → LineRow → Span
 row_span number row = record {
   start = row.start;
@@ -18,8 +18,8 @@ row_span number row = record {
   mark = record { rank = row.start; value = number };
 }
 
--- what rows cover, of which the first has this number; the last row comes first, since of equal
--- ranks the first counts
+-- the spans that rows cover, of which the first has this number; the last row comes first, since of
+-- equal ranks the first counts
 abbrev pub row_spans : ℕ → List LineRow → List Span
 row_spans number [] = []
 row_spans number (row ∷ rows) = row_spans (number + 1) rows ++ row_span number row ∷ []
@@ -34,7 +34,7 @@ abbrev pub AreAscending : ℕ → List LineRow → Type 0
 AreAscending low [] = Unit {0}
 AreAscending low (row ∷ rows) = (low ≤ row.start) × AreAscending row.start rows
 
--- what rows that don't ascend are searched by: pieces, and where rows begin, in ascending order
+-- the search of rows that don't ascend: pieces, and the starts of rows in ascending order
 pub record Unordered : Type 0 where
   pub pieces : List Span
   pub starts : List ℕ

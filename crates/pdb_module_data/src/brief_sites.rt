@@ -1,4 +1,4 @@
-//! What is stored of inline sites once their rows were read.
+//! The stored inline sites, once their rows were read.
 
 ghost use Rattle.std.specs.Prelude.{◌≡◌, IfOk, map};
 ghost use Rattle.pdb_module_data.specs.BriefSites.{brief_of};
@@ -7,8 +7,8 @@ use crate::inline_sites::Site;
 use pdb_container::IdIndex;
 use std::alloc::{AllocError, Global};
 
-/// What is stored of an inline site: the id of its function, and the site that it lies in. All else
-/// stands in the symbols.
+/// A stored inline site: the id of its function, and the site that it lies in. All other fields
+/// stand in the symbols.
 #[derive(Clone, Copy, Debug)]
 pub struct BriefSite {
     /// The id of the inlined function.
@@ -16,12 +16,13 @@ pub struct BriefSite {
     /// The number of the site that it lies in, counted from 0 in the order of the file; `None`
     /// directly in the procedure.
     pub parent: Option<u32>,
-    /// How deep it lies: 1 directly in the procedure.
+    /// The depth: 1 directly in the procedure.
     pub depth: u32,
 }
 
 /// A number in 32 bits. No list of symbols, which has fewer than 2^32 bytes, has so many sites or
-/// rows that their numbers don't fit; such a list is refused like one that memory is too short for.
+/// rows that their numbers don't fit; such a list would be refused as if memory were too short for
+/// it.
 pub fn short_number(number: usize) -> Result<u32, AllocError>
     ensures { IfOk result (λ short. short ≡ number) }
 {
@@ -44,7 +45,7 @@ fn short_parent(parent: Option<usize>) -> Result<Option<u32>, AllocError>
     }
 }
 
-/// What is stored of a site.
+/// The stored site.
 fn brief(site: &Site<'_>) -> Result<BriefSite, AllocError>
     ensures { IfOk result (λ b. b ≡ brief_of site.now) }
 {
@@ -57,7 +58,7 @@ fn brief(site: &Site<'_>) -> Result<BriefSite, AllocError>
     })
 }
 
-/// What is stored of sites.
+/// The stored sites.
 pub fn briefs_of(alloc: Global, sites: &[Site<'_>]) -> Result<Vec<BriefSite>, AllocError>
     ensures { IfOk result (λ v. v.items ≡ map brief_of sites.now) }
 {

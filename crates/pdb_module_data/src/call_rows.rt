@@ -1,4 +1,4 @@
-//! What is stored of the rows of an inlined call, and a search of the one over a place by halving.
+//! The stored rows of an inlined call, and a search of the one over a place by halving.
 
 ghost use Rattle.std.specs.Prelude.{◌≡◌, ◌+◌, ◌++◌, IfOk, OnOk, map, option_map, slice_get, true};
 ghost use Rattle.std.specs.List.{find};
@@ -20,16 +20,16 @@ use pdb_lines::InlineeLineIterator;
 use pdb_pieces::{Begins, Mark, Pieces, Span, count_begun, place_number};
 use std::alloc::{AllocError, Global};
 
-/// Where a section ends at the latest: its offsets have 32 bits.
+/// The greatest end of a section: its offsets have 32 bits.
 const SECTION_END: u64 = 0x1_0000_0000;
 
-/// A row of an inlined call that covers something: where its code begins, how many bytes it has,
+/// A row of an inlined call that covers something: the start and the number of bytes of its code,
 /// and its file and line.
 #[derive(Clone, Copy, Debug, PartialEq, Eq)]
 pub struct CallRow {
-    /// Where the code begins: a section's number, counted from 1, and an offset in bytes.
+    /// The start of the code: a section's number, counted from 1, and an offset in bytes.
     pub offset: PdbInternalSectionOffset,
-    /// How many bytes of code there are, at least 1.
+    /// The number of bytes of code, at least 1.
     pub length: u32,
     /// The file, by its place among the module's checksums, in bytes.
     pub file_index: FileIndex,
@@ -48,7 +48,7 @@ impl Begins for CallRow {
     }
 }
 
-/// Appends what is stored of rows; a fault ends them.
+/// Appends the stored rows; a fault ends them.
 fn push_kept(kept: &mut Vec<CallRow>, mut rows: InlineeLineIterator<'_>) -> Result<(), AllocError>
     ensures { OnOk result (kept.new.items ≡ kept.old.items ++ kept_of_rows rows.entry.items) }
 {
@@ -66,7 +66,7 @@ fn push_kept(kept: &mut Vec<CallRow>, mut rows: InlineeLineIterator<'_>) -> Resu
     Ok(())
 }
 
-/// Appends what is stored of the rows of a site, where its procedure begins at `start`.
+/// Appends the stored rows of a site, where its procedure begins at `start`.
 pub fn push_site_rows<'a>(
     kept: &mut Vec<CallRow>,
     site: &Site<'a>,
@@ -83,7 +83,7 @@ pub fn push_site_rows<'a>(
     }
 }
 
-/// What a row of the site of this number covers, ranked by the site's depth.
+/// The span that a row of the site of this number covers, ranked by the site's depth.
 fn call_row_span(number: usize, depth: usize, row: CallRow) -> Span
     ensures span { result ≡ site_row_span number depth row }
     ensures short { IsShortRow row }
@@ -99,7 +99,7 @@ fn call_row_span(number: usize, depth: usize, row: CallRow) -> Span
     }
 }
 
-/// Appends what the rows of a site cover.
+/// Appends the spans that the rows of a site cover.
 pub fn push_spans(
     spans: &mut Vec<Span>,
     number: usize,
@@ -128,8 +128,8 @@ fn nearer(offset: u32, place: u64, far: u32) -> u32
     }
 }
 
-/// The lesser of `far` and the distances from an offset to where a row begins and ends past it. A
-/// row ends at 2^32 at the latest.
+/// The lesser of `far` and the distances from an offset to the start and the end of a row past it.
+/// A row ends at 2^32 at the latest.
 fn to_cut(row: &CallRow, offset: u32, far: u32) -> u32
     ensures { result ≡ up_to_next (row_cuts row.now) offset far }
 {
@@ -180,7 +180,8 @@ fn are_apart(rows: &[CallRow]) -> bool
     true
 }
 
-/// What rows cover, each with its number among them, all of one rank: of equals the first counts.
+/// The spans that rows cover, each with its number among them, all of one rank: of equals the first
+/// counts.
 fn numbered_spans(alloc: Global, rows: &[CallRow]) -> Result<Vec<Span>, AllocError>
     ensures spans { IfOk result (λ v. v.items ≡ row_spans 0 rows.now) }
     ensures short { IfOk result (λ v. AreShortRows rows.now) }
@@ -220,8 +221,8 @@ fn call_row_numbered(rows: &[CallRow], number: usize) -> Option<CallRow>
     rows.get(number).copied()
 }
 
-/// The row over a place, of rows that lie apart in ascending order: only the last one that begins
-/// there or before can be.
+/// The row over a place, of rows that lie apart in ascending order: no row but the last one that
+/// begins there or before can be over it.
 fn call_row_by_halving(rows: &[CallRow], place: PdbInternalSectionOffset) -> Option<CallRow>
     requires { AreApart 0 rows.now }
     ensures { result ≡ find (covers_kept place) rows.now }
@@ -266,7 +267,7 @@ fn row_over(
     }
 }
 
-/// A call over a place, by what is stored of its rows, and by pieces where these don't lie apart.
+/// A call over a place, from its stored rows, and by pieces where these don't lie apart.
 pub fn call_over(
     inlinee: IdIndex,
     rows: &[CallRow],

@@ -1,4 +1,4 @@
-//! The deepest inline site over a place, by going over sites and what is stored of their rows.
+//! The deepest inline site over a place, by going over sites and their stored rows.
 
 ghost use Rattle.std.specs.Prelude.{◌≡◌, None, Some, if◌then◌else◌, length};
 ghost use Rattle.std.specs.List.{list_any};
@@ -24,8 +24,8 @@ fn is_any_over(rows: &[CallRow], place: PdbInternalSectionOffset) -> bool
     false
 }
 
-/// Of a site, if one of its rows covers a place, and of one after it that was found the deeper one,
-/// by number and depth; of equals the first.
+/// The deeper of a site, if one of its rows covers a place, and of one after it that was found, by
+/// number and depth; of equals the first.
 fn deeper_of(
     number: usize,
     depth: u32,
@@ -48,8 +48,8 @@ fn deeper_of(
     }
 }
 
-/// The number of the deepest site with a row over a place, of equals the first, by what is stored
-/// of sites and of their rows. It takes a step for each of them.
+/// The number of the deepest site with a row over a place, of equals the first, from the stored
+/// sites and their rows. It takes a step for each of them.
 pub fn deepest_of(
     sites: &[BriefSite],
     of_sites: &SiteRows,

@@ -1,4 +1,4 @@
-//! The names of the string table, found by where they end.
+//! The names of the string table, found by their ends.
 
 ghost use Rattle.std.specs.Prelude.{◌≡◌, ◌<◌, ◌≤◌, ◌^◌, ℕ, IfOk, Option, IfSome, option_map};
 ghost use Rattle.std.specs.Prelude.{List, length, slice_get, slice_range};
@@ -12,14 +12,14 @@ use std::alloc::{AllocError, Global};
 use std::borrow::CowStr;
 use std::marker::Model;
 
-/// The names of the string table (`/names`), if there is one. It is gone over once: whether all of
-/// it is text, and where the NULs are that end names. A name is then found by halving, wherever it
-/// begins and however long it is.
+/// The names of the string table (`/names`), if there is one. The table is gone over once: to see
+/// whether all of it is text, and to list the NULs that end names. A name is then found by halving,
+/// wherever it begins and however long it is.
 pub struct FileNames<'t, 's> {
     strings: Option<&'t StringTable<'s>>,
     /// The names with their NULs, where all of them together are text as they stand.
     text: Option<&'t str>,
-    /// Where the name after each NUL begins, in bytes from the first name.
+    /// The start of the name after each NUL, in bytes from the first name.
     next_names: Vec<u32>,
 }
 
@@ -31,7 +31,7 @@ impl<'t, 's> Model for FileNames<'t, 's> {
 
     ghost view = { λ n. option_map (λ t. t.now) n.strings };
 
-    // What was found in going over the table is what the table has.
+    // The text and the starts are those of the table.
     ghost invariant = { λ n. AreNamesOf (option_map (λ t. t.now) n.strings)
         (option_map (λ t. t.now) n.text) n.next_names.items };
 }
@@ -47,7 +47,7 @@ impl<'t, 's> Drop for FileNames<'t, 's> {
     }
 }
 
-/// Where the name after each NUL begins.
+/// The start of the name after each NUL.
 fn starts_after_nuls(alloc: Global, names: &[u8]) -> Result<Vec<u32>, AllocError>
     requires { length names.now < 2 ^ 32 }
     ensures { IfOk result (λ v. v.items ≡ after_nuls 0 names.now) }
@@ -75,7 +75,7 @@ fn start_numbered(starts: &[u32], number: usize) -> Option<u32>
     starts.get(number).copied()
 }
 
-/// Where the name at an offset ends, by where the name after each NUL begins; `None` where no NUL
+/// The end of the name at an offset, from the start of the name after each NUL; `None` where no NUL
 /// ends it.
 fn end_of_name(next_names: &[u32], offset: u32) -> Option<u32>
     requires { (names : List ℕ) × (next_names.now ≡ after_nuls 0 names) }
@@ -110,7 +110,8 @@ fn lossy_text(alloc: Global, name: &[u8]) -> Result<CowStr<'_>, AllocError>
     }
 }
 
-/// The name from one place on and before another as text: that of all names, where they are text.
+/// The name from one place on and before another as text: a part of the text of all names, where
+/// they are text.
 fn name_between<'t>(
     alloc: Global,
     names: &'t [u8],

@@ -1,5 +1,5 @@
-//! The line rows of a function, and a search of the one at an offset, and of the next one's start,
-//! by halving.
+//! The line rows of a function, and a search by halving of the row at an offset, and of the next
+//! row's start.
 
 ghost use Rattle.std.specs.Prelude.{◌≡◌, ℕ, ◌+◌, ◌^◌, ◌<◌, ◌≤◌, true, IfOk, length, slice_get};
 ghost use Rattle.pdb_addresses.specs.SectionOrder.{AreInOrder};
@@ -18,16 +18,16 @@ use pdb_pieces::{Begins, Mark, Pieces, Span, count_begun, to_next};
 use std::alloc::{AllocError, Global};
 use std::marker::Model;
 
-/// How many rows most functions have, so that the list of them isn't moved as it grows.
+/// The number of rows of most functions, so that the list of them isn't moved as it grows.
 const USUAL_ROWS: usize = 16;
 
-/// What is stored of a line row of a function: where its code begins, how many bytes it has, and
-/// its file and line.
+/// A stored line row of a function: the start and the number of bytes of its code, and its file and
+/// line.
 #[derive(Clone, Copy, Debug, PartialEq, Eq)]
 pub struct LineRow {
-    /// Where the code begins: an offset in the function's section, in bytes.
+    /// The start of the code: an offset in the function's section, in bytes.
     pub start: u32,
-    /// How many bytes of code there are: up to the next entry of the `DEBUG_S_LINES` in the file's
+    /// The number of bytes of code: up to the next entry of the `DEBUG_S_LINES` in the file's
     /// order, or else to its end. `None` where that lies before the row.
     pub length: Option<u32>,
     /// The file, by its place among the module's checksums, in bytes.
@@ -45,8 +45,8 @@ impl Begins for LineRow {
     }
 }
 
-/// What rows that don't ascend are searched by: pieces of offsets with the number of the row at
-/// each, and where the rows begin, in ascending order.
+/// The search of rows that don't ascend: pieces of offsets with the number of the row at each, and
+/// the starts of the rows, in ascending order.
 #[derive(Drop)]
 struct Unordered {
     pieces: Pieces,
@@ -61,8 +61,8 @@ impl Model for Unordered {
     ghost view = { λ u. record { pieces = u.pieces; starts = u.starts.items } };
 }
 
-/// The line rows of a function: what is stored of those of its `DEBUG_S_LINES`, in their order, and
-/// what they are searched by where they don't ascend.
+/// The line rows of a function: the stored rows of its `DEBUG_S_LINES`, in their order, and their
+/// search where they don't ascend.
 #[derive(Drop)]
 pub struct FunctionRows {
     rows: Vec<LineRow>,
@@ -78,11 +78,11 @@ impl Model for FunctionRows {
 
     ghost view = { λ r. r.rows.items };
 
-    // The rows ascend, or there is what they are searched by.
+    // The rows ascend, or there are pieces and starts for their search.
     ghost invariant = { λ r. AreSearchable r.rows.items r.unordered };
 }
 
-/// What a row with this number covers, to the end of its section, ranked by its start.
+/// The span that a row with this number covers, to the end of its section, ranked by its start.
 fn row_span(number: usize, row: LineRow) -> Span
     ensures { result ≡ span_of_row number row }
 {
@@ -97,8 +97,8 @@ fn row_span(number: usize, row: LineRow) -> Span
     }
 }
 
-/// What rows cover, each ranked by its start. The last row comes first, since of equal ranks the
-/// first counts.
+/// The spans that rows cover, each ranked by its start. The last row comes first, since of equal
+/// ranks the first counts.
 fn row_spans(alloc: Global, rows: &[LineRow]) -> std::result::Result<Vec<Span>, AllocError>
     ensures { IfOk result (λ v. v.items ≡ spans_of_rows 0 rows.now) }
 {
@@ -134,7 +134,7 @@ fn are_ascending(rows: &[LineRow]) -> bool
     true
 }
 
-/// Where rows begin, in their order.
+/// The starts of rows, in their order.
 fn starts_of(alloc: Global, rows: &[LineRow]) -> std::result::Result<Vec<u32>, AllocError>
     ensures { IfOk result (λ v. v.items ≡ row_starts rows.now) }
 {
@@ -145,7 +145,7 @@ fn starts_of(alloc: Global, rows: &[LineRow]) -> std::result::Result<Vec<u32>, A
     Ok(starts)
 }
 
-/// Where rows begin, in ascending order.
+/// The starts of rows, in ascending order.
 fn ascending_starts(alloc: Global, rows: &[LineRow]) -> std::result::Result<Vec<u32>, AllocError>
     ensures { IfOk result (λ v. AreInOrder (row_starts rows.now) v.items) }
 {
@@ -154,7 +154,7 @@ fn ascending_starts(alloc: Global, rows: &[LineRow]) -> std::result::Result<Vec<
     Ok(starts)
 }
 
-/// What rows are searched by, unless they ascend.
+/// The search of rows, unless they ascend.
 fn unless_ascending(
     alloc: Global,
     rows: &[LineRow],
@@ -177,7 +177,8 @@ fn row_numbered(rows: &[LineRow], number: usize) -> Option<LineRow>
     rows.get(number).copied()
 }
 
-/// The row at an offset, of rows that ascend, by halving, and how many were looked at.
+/// The row at an offset, of rows that ascend, by halving, and the number of rows that were looked
+/// at.
 fn row_by_halving(rows: &[LineRow], offset: u32) -> (Option<LineRow>, u32)
     requires { AreAscending 0 rows.now }
     ensures row { result.0 ≡ row_at rows.now offset }
@@ -225,9 +226,8 @@ fn read_rows(
 }
 
 impl FunctionRows {
-    /// The line rows of the function that begins at `start`: of the rows of the last
-    /// `DEBUG_S_LINES` at or before that start, if that one is in its section; they are read to
-    /// their end.
+    /// The line rows of the function that begins at `start`: the rows of the last `DEBUG_S_LINES`
+    /// at or before that start, if that one is in its section; they are read to their end.
     ///
     /// # Errors
     /// `UnexpectedEof` where some block can't be read; `OutOfMemory`.
@@ -243,8 +243,8 @@ impl FunctionRows {
         Ok(FunctionRows { rows, unordered })
     }
 
-    /// The row at an offset: of those that begin at it or before it the one with the greatest
-    /// start, of equals the last. Rows or pieces are halved: of n as many are looked at as n has
+    /// The row at an offset: the row with the greatest start among those that begin at it or before
+    /// it, of equals the last. Rows or pieces are halved: of n as many are looked at as n has
     /// binary digits, or one fewer.
     pub fn at(&self, offset: u32) -> Option<LineRow>
         ensures { result ≡ row_at self.now offset }
@@ -266,7 +266,7 @@ impl FunctionRows {
         }
     }
 
-    /// About how many bytes of memory they take, at most.
+    /// The approximate number of bytes of memory that they take, at most.
     pub fn memory_size(&self) -> u64 {
         let unordered = match &self.unordered {
             None => 0,

@@ -27,16 +27,16 @@ use pdb_symbol_records::SymbolIter;
 use std::alloc::{AllocError, Global};
 use std::marker::Model;
 
-/// How many rows most sites have, so that lists of them aren't moved as they grow.
+/// The number of rows of most sites, so that lists of them aren't moved as they grow.
 const ROWS_OF_SITE: usize = 4;
 
-/// How many sites and rows are gone over in a search of the deepest site over a place. Past that
-/// the rows are cut into pieces, which costs more than some such searches.
+/// The number of sites and rows that are gone over in a search of the deepest site over a place.
+/// Past that number the rows are cut into pieces, which costs more than some such searches.
 const GONE_OVER: usize = 128;
 
-/// The inline sites of a procedure (`S_INLINESITE`, `S_INLINESITE2`) in the order of the file, what
-/// is stored of the rows of all of them, and, where these aren't few, pieces of places for a search
-/// of the deepest one over a place.
+/// The inline sites of a procedure (`S_INLINESITE`, `S_INLINESITE2`) in the order of the file, the
+/// stored rows of all of them, and, where these aren't few, pieces of places for a search of the
+/// deepest one over a place.
 #[derive(Drop)]
 pub struct InlineRanges<'t> {
     /// The module's symbols, from which the sites were read.
@@ -67,7 +67,8 @@ impl<'t> Model for InlineRanges<'t> {
       pieces = r.pieces;
     } };
 
-    // The row of each site over a place is found by halving. What is stored of the sites is theirs.
+    // The row of each site over a place is found by halving. The stored rows are those of the
+    // sites.
     ghost invariant = { λ r. AreAllFound (length r.sites.items) r.rows.rows.items
         r.rows.starts.items r.rows.pieces
         × (r.sites.items ≡ map brief_of
@@ -75,14 +76,14 @@ impl<'t> Model for InlineRanges<'t> {
         × IsNested (sites_if_read (sites_of r.symbols.bytes r.start.0 r.end.0)) };
 }
 
-/// What is stored of the rows of sites, and where those of each start.
+/// The stored rows of sites, and the starts of the rows of each site.
 #[derive(Drop)]
 struct RowsAndStarts {
     rows: Vec<CallRow>,
     starts: Vec<u32>,
 }
 
-/// The rows of sites, and where those of each start.
+/// The rows of sites, and the starts of the rows of each site.
 fn rows_and_starts<'a>(
     alloc: Global,
     sites: &[Site<'a>],
@@ -108,7 +109,7 @@ fn rows_and_starts<'a>(
     })
 }
 
-/// What sites cover by their rows, each span ranked by its site's depth.
+/// The spans that sites cover by their rows, each ranked by its site's depth.
 fn spans_of(
     alloc: Global,
     sites: &[Site<'_>],
@@ -149,8 +150,8 @@ fn pieces_unless_few(
 }
 
 impl<'t> InlineRanges<'t> {
-    /// The inline sites of a procedure, as [`InlineSites::read`] says, and pieces of places by the
-    /// rows that the module's inlinees give them. A row before an annotation that can't be read
+    /// The inline sites of a procedure, as [`InlineSites::read`] says, and pieces of places from
+    /// the rows that the module's inlinees give them. A row before an annotation that can't be read
     /// counts, but for the last of them.
     ///
     /// # Errors
@@ -204,12 +205,12 @@ impl<'t> InlineRanges<'t> {
         }
     }
 
-    /// The inlined calls over a place, innermost first: that of the deepest site with a row over
-    /// the place, and those of the sites that it lies in. Of equally deep sites the first in the
-    /// order of the file counts. There are none where no row covers the place. The procedure has to
-    /// begin at `start`, and `inlinees` have to be those that the pieces were made by. The row of
-    /// each over the place is found by halving, and so is the deepest site where sites and rows are
-    /// more than 128; else these are gone over.
+    /// The inlined calls over a place, innermost first: the call of the deepest site with a row
+    /// over the place, and the calls of the sites that it lies in. Of equally deep sites the first
+    /// in the order of the file counts. There are none where no row covers the place. The procedure
+    /// has to begin at `start`, and `inlinees` have to be those from which the pieces were made.
+    /// The row of each over the place is found by halving, and so is the deepest site where sites
+    /// and rows are more than 128; otherwise these are gone over.
     ///
     /// # Errors
     /// `AllocError` when memory runs out.
@@ -242,7 +243,7 @@ impl<'t> InlineRanges<'t> {
         to_next_cut_of(self.rows.rows.as_slice(), offset, far)
     }
 
-    /// About how many bytes of memory they take, at most.
+    /// The approximate number of bytes of memory that they take, at most.
     pub fn memory_size(&self) -> u64 {
         let site_size = size_of::<BriefSite>() + size_of::<u32>();
         let pieces = if self.pieces.is_none() && self.rows.pieces.is_empty() {

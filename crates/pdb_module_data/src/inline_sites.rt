@@ -18,11 +18,11 @@ use std::marker::Model;
 /// Room that is taken ahead for sites, so that a list of few of them isn't moved as it grows.
 const SITES_AHEAD: usize = 16;
 
-/// How deep a site may lie in others: the most that 16 bits count, as the ported crate counts
+/// The greatest depth of a site in others: the most that 16 bits count, as the ported crate counts
 /// depth. Memory for them grows with their rows, as docs/COSTS.md says of nested calls.
 const MAXIMUM_DEPTH: usize = 65_535;
 
-/// Why the inline sites of a procedure can't be read.
+/// The cause for which the inline sites of a procedure can't be read.
 #[derive(Debug, Drop, PartialEq)]
 pub enum SitesError {
     /// A symbol can't be read, or memory ran out.
@@ -73,7 +73,7 @@ pub struct Site<'t> {
     /// The number of the site that it lies in, counted from 0 in the order of the file; `None`
     /// directly in the procedure.
     pub parent: Option<usize>,
-    /// How deep it lies: 1 directly in the procedure.
+    /// The depth: 1 directly in the procedure.
     pub depth: usize,
 }
 
@@ -108,7 +108,7 @@ impl<'t> Model for InlineSites<'t> {
     ghost invariant = { λ s. IsNested s.sites.items };
 }
 
-/// What a symbol is among others of a procedure.
+/// The element that a symbol is among others of a procedure.
 #[derive(Clone, Copy)]
 enum Element<'t> {
     Call(InlineSiteSymbol<'t>),
@@ -116,14 +116,15 @@ enum Element<'t> {
     Plain,
 }
 
-/// A body that isn't closed yet: the place at which it closes, and the site that it is of.
+/// A body that isn't closed yet: the place at which it closes, and the site of which it is the
+/// body.
 #[derive(Clone, Copy)]
 struct Open {
     limit: u32,
     site: Option<usize>,
 }
 
-/// What a symbol is among others. No symbol of another kind is parsed.
+/// The element that a symbol is among others. No symbol of another kind is parsed.
 #[tactic(auto, using(crate::proofs::PlainKinds::plain_kind))]
 fn parse_element<'t>(symbol: &Symbol<'t>) -> Element<'t>
     ensures { element_seen result ≡ element_of symbol.now }
@@ -153,7 +154,7 @@ fn skip_nested(symbols: &mut SymbolIter<'_>, index: SymbolIndex, end: u32) -> Re
     Ok(())
 }
 
-/// One more site, directly in a body below so many others; its number.
+/// Adds one more site, directly in a body below so many others; returns its number.
 fn push_site<'t>(
     sites: &mut Vec<Site<'t>>,
     parent: Option<usize>,
@@ -176,7 +177,7 @@ fn push_site<'t>(
     Ok(number)
 }
 
-/// The sites from where the iterator stands on, of the body that closes at a limit.
+/// The sites of the body that closes at a limit, from the iterator's place on.
 fn scan_sites<'t>(
     alloc: Global,
     symbols: &mut SymbolIter<'t>,
@@ -218,8 +219,8 @@ fn scan_sites<'t>(
 impl<'t> InlineSites<'t> {
     /// The inline sites of a procedure: those of the symbols after its own and before the one that
     /// ends it. An inline site is closed by the first symbol at its end or past it, whatever that
-    /// is; a nested procedure is passed over, with the symbol at its end; the end of the symbols
-    /// closes all.
+    /// symbol is; a nested procedure is passed over, with the symbol at its end; the end of the
+    /// symbols closes all.
     ///
     /// # Errors
     /// `Unsuccessful` where a nested procedure doesn't end after its own symbol, and where sites
@@ -234,7 +235,8 @@ impl<'t> InlineSites<'t> {
         InlineSites::read_by(alloc, &mut symbols, procedure)
     }
 
-    /// The same by an iterator over the symbols, which is over them afterward, too.
+    /// The inline sites of a procedure, by an iterator over the symbols, which is over them
+    /// afterward, too.
     pub(crate) fn read_by(
         alloc: Global,
         symbols: &mut SymbolIter<'t>,

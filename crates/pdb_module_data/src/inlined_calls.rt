@@ -15,14 +15,14 @@ use std::alloc::{AllocError, Global};
 /// The code of a row of an inlined call.
 #[derive(Clone, Copy, Debug, PartialEq, Eq)]
 pub struct CodeSpan {
-    /// Where it begins: a section's number, counted from 1, and an offset in bytes.
+    /// The start of the code: a section's number, counted from 1, and an offset in bytes.
     pub offset: PdbInternalSectionOffset,
-    /// How many bytes it has, at least 1.
+    /// The number of its bytes, at least 1.
     pub length: u32,
 }
 
 /// An inlined call over a place: the function's id in the IPI, and file, line and code of its first
-/// row over the place; else the file of its first row that has a length, no line and no code.
+/// row over the place; or else the file of its first row that has a length, no line and no code.
 #[derive(Clone, Copy, Debug, PartialEq, Eq)]
 pub struct InlinedCall {
     /// The id of the inlined function, which may lead into another module.
@@ -35,7 +35,7 @@ pub struct InlinedCall {
     pub row: Option<CodeSpan>,
 }
 
-/// What is stored of the site with that number.
+/// The stored site with that number.
 pub fn site_numbered(sites: &[BriefSite], number: usize) -> BriefSite
     requires { number < length sites.now }
     ensures { slice_get sites.now number ≡ Some result }
@@ -53,8 +53,8 @@ fn parent_of(site: BriefSite) -> Option<usize>
     }
 }
 
-/// The calls of a site and of those that it lies in, innermost first, by what is stored of the sites
-/// and of the rows of each.
+/// The calls of a site and of the sites that it lies in, innermost first, from the stored sites and
+/// the rows of each.
 pub fn calls_from(
     alloc: Global,
     sites: &[BriefSite],

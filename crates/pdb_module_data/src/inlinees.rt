@@ -11,7 +11,7 @@ use pdb_lines::{Inlinee, InlineeIterator};
 use std::alloc::Global;
 use std::collections::BTreeMap;
 
-/// The inlinees of a module (`DEBUG_S_INLINEELINES`) by their ids; of those of one id the last
+/// The inlinees of a module (`DEBUG_S_INLINEELINES`) by their ids; of inlinees with one id the last
 /// counts.
 #[derive(Debug, Drop)]
 pub struct Inlinees<'a> {
@@ -41,7 +41,7 @@ impl<'a> Inlinees<'a> {
         self.by_id.get(&id.0)
     }
 
-    /// About how many bytes of memory they take.
+    /// The approximate number of bytes of memory that they take.
     pub fn memory_size(&self) -> u64 {
         memory_of(
             self.by_id.len(),

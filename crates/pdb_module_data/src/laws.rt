@@ -1,4 +1,4 @@
-//! What the definitions say, in other words.
+//! Laws of the definitions: functions that do nothing, whose contracts are proved.
 
 ghost use Rattle.std.specs.Prelude.{◌≡◌, ◌↔◌, ℕ, List, [], IfOk, Ok};
 ghost use Rattle.std.specs.List.{AllPairs, IsDistinct};
@@ -52,9 +52,9 @@ pub fn rows_of_a_subsection()
         → numbered_rows program number ≡ function_rows program start }
 {}
 
-/// Of the procedures that are taken the first of each start counts: the one that begins at a place
-/// is the first of all that begin there, no two begin at one place, and they stand in the order in
-/// which they were taken.
+/// The first procedure of each start counts among those that are taken: the one that begins at a
+/// place is the first of all that begin there, no two begin at one place, and they stand in the
+/// order in which they were taken.
 pub fn first_of_each_start()
     ensures first { (taken : List Procedure) (p : Place)
         → first_at (firsts_onto [] taken) p ≡ first_at taken p }

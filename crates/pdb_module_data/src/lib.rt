@@ -1,6 +1,6 @@
-//! What a module's own stream says of a place in it: the procedure over it, the line there, and the
-//! inlined calls over it. It goes by symbols, line program, inlinees and string table, and knows
-//! nothing of files, caches or types.
+//! The procedure over a place, the line there, and the inlined calls over it, from a module's own
+//! stream. The crate goes by symbols, line program, inlinees and string table, and knows nothing of
+//! files, caches or types.
 //!
 //! How procedures, rows and calls are held and searched may change. Which of them a place has
 //! (`specs/Procedures`, `specs/FunctionLine`, `specs/InlinedCalls`) may not.

@@ -17,8 +17,8 @@ use pdb_symbol_records::SymbolIter;
 use std::alloc::{AllocError, Global};
 use std::marker::Model;
 
-/// The procedures of a module in their order, of those of one start the first, and pieces of places
-/// for a search among them.
+/// The procedures of a module in their order, the first of each start, and pieces of places for a
+/// search among them.
 #[derive(Drop)]
 pub struct Procedures<'t> {
     list: Vec<Procedure<'t>>,
@@ -38,7 +38,7 @@ impl<'t> Model for Procedures<'t> {
     ghost invariant = { λ p. StandFor p.pieces p.list.items };
 }
 
-/// What a procedure of this number covers, ranked by its start.
+/// The span that a procedure of this number covers, ranked by its start.
 fn procedure_span(number: usize, procedure: &Procedure<'_>) -> Span
     ensures span { result ≡ span_of_procedure number procedure.now }
     ensures short { IsShort procedure.now }
@@ -55,7 +55,7 @@ fn procedure_span(number: usize, procedure: &Procedure<'_>) -> Span
     }
 }
 
-/// What procedures cover, each ranked by its start.
+/// The spans that procedures cover, each ranked by its start.
 fn procedure_spans(
     alloc: Global,
     procedures: &[Procedure<'_>],
@@ -105,8 +105,8 @@ impl<'t> Procedures<'t> {
         self.list.as_slice()
     }
 
-    /// The number of the procedure over a place, counted from 0 in their order: of those that
-    /// contain it the one with the greatest start. It takes as many steps as the number of pieces
+    /// The number of the procedure over a place, counted from 0 in their order: the one with the
+    /// greatest start among those that contain it. It takes as many steps as the number of pieces
     /// has binary digits.
     pub fn number_covering(&self, place: PdbInternalSectionOffset) -> Option<usize>
         ensures { option_and_then (λ k. slice_get self.now k) result ≡ over_of self.now place }
@@ -114,7 +114,7 @@ impl<'t> Procedures<'t> {
         self.pieces.value_at(place)
     }
 
-    /// About how many bytes of memory they take, at most.
+    /// The approximate number of bytes of memory that they take, at most.
     pub fn memory_size(&self) -> u64 {
         memory_of(self.list.len(), size_of::<Procedure<'_>>() + PIECES_OF_SPAN)
     }

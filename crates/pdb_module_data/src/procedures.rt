@@ -15,7 +15,7 @@ use std::alloc::{AllocError, Global};
 use std::collections::BTreeSet;
 use std::marker::Model;
 
-/// A procedure of a module: a function's code, by a procedure symbol, a thunk (`S_THUNK32`) or
+/// A procedure of a module: a function's code, from a procedure symbol, a thunk (`S_THUNK32`) or
 /// separated code (`S_SEPCODE`).
 #[derive(Debug, Drop)]
 pub struct Procedure<'t> {
@@ -23,13 +23,13 @@ pub struct Procedure<'t> {
     pub symbol_index: SymbolIndex,
     /// The place of the symbol that ends it, in bytes.
     pub end_symbol_index: SymbolIndex,
-    /// Where its code begins: a section's number, counted from 1, and an offset in bytes.
+    /// The start of its code: a section's number, counted from 1, and an offset in bytes.
     pub offset: PdbInternalSectionOffset,
-    /// How many bytes of code it has; never 0.
+    /// The number of bytes of its code; never 0.
     pub len: u32,
-    /// The index of its type, 0 for none. Separated code has that of its procedure, a thunk none.
+    /// The index of its type, 0 for none. Separated code has its procedure's type, a thunk none.
     pub type_index: TypeIndex,
-    /// Its name as it is stored; separated code has that of its procedure.
+    /// Its name as it is stored; separated code has its procedure's name.
     pub name: RawString<'t>,
 }
 
@@ -49,8 +49,8 @@ impl<'t> Model for Procedure<'t> {
     } };
 }
 
-/// Separated code by the procedure that was taken last: with that one's name and type, if that one
-/// begins at its parent's place.
+/// Separated code by the procedure that was taken last: with that procedure's name and type, if it
+/// begins at the place of the code's parent.
 fn separated_code<'t>(
     last: Option<&Procedure<'t>>,
     index: SymbolIndex,
@@ -79,8 +79,8 @@ fn may_be_procedure(kind: u16) -> bool
     is_procedure(kind) || is_thunk(kind) || is_separated_code(kind)
 }
 
-/// What a symbol says as a procedure, after the procedure that was taken last. No symbol of another
-/// kind is parsed.
+/// A symbol as a procedure, after the procedure that was taken last. No symbol of another kind is
+/// parsed.
 #[tactic(auto, using(crate::proofs::ProcedureSteps::no_procedure))]
 fn parse_procedure<'t>(last: Option<&Procedure<'t>>, symbol: &Symbol<'t>) -> Option<Procedure<'t>>
     ensures { result ≡ said_by (option_map (λ q. q.now) last.entry) symbol.now }
@@ -110,7 +110,7 @@ fn parse_procedure<'t>(last: Option<&Procedure<'t>>, symbol: &Symbol<'t>) -> Opt
     }
 }
 
-/// The procedure that is taken from a symbol, after the one that was taken last: one that has code.
+/// The procedure that is taken from a symbol, after the one that was taken last, if it has code.
 fn procedure_with_code<'t>(
     last: Option<&Procedure<'t>>,
     symbol: &Symbol<'t>,
@@ -138,7 +138,7 @@ fn copied<'t>(procedure: &Procedure<'t>) -> Procedure<'t>
     }
 }
 
-/// One more procedure, unless one begins where it does.
+/// Adds one more procedure, unless another one begins where it does.
 #[tactic(auto, using(crate::proofs::ProcedureSteps::starts_more))]
 fn push_new<'t>(
     starts: &mut BTreeSet<(u16, u32)>,
@@ -157,9 +157,9 @@ fn push_new<'t>(
 }
 
 /// The procedures among a module's symbols, which are read to their end: procedure symbols, thunks
-/// and separated code that can be read and have code, in their order; of those with one start the
-/// first. Separated code has the name and the type of the procedure taken last before it, if that
-/// one begins at its parent's place; else it isn't taken.
+/// and separated code that can be read and have code, in their order; the first of those with one
+/// start. Separated code has the name and the type of the procedure taken last before it, if that
+/// one begins at its parent's place; otherwise it isn't taken.
 ///
 /// # Errors
 /// The first fault of the symbols: `SymbolTooShort`, `UnexpectedEof`. `OutOfMemory`.

@@ -1,5 +1,5 @@
-//! What is stored of the rows of a procedure's inline sites, and pieces for a search among those of
-//! each.
+//! The stored rows of a procedure's inline sites, and pieces for a search among the rows of each
+//! site.
 
 ghost use Rattle.std.specs.Prelude.{◌≡◌, ◌+◌, ◌<◌, ◌≤◌, IfOk, OnOk};
 ghost use Rattle.std.specs.Prelude.{length, option_map, slice_index};
@@ -12,8 +12,8 @@ use pdb_pieces::Pieces;
 use std::alloc::{AllocError, Global};
 use std::collections::BTreeMap;
 
-/// What is stored of the rows of sites, one after another, with where those of each start; and
-/// pieces of places for a search among those of a site, under its number, where they don't lie
+/// The stored rows of sites, one after another, with the starts of the rows of each site; and
+/// pieces of places for a search among the rows of a site, under its number, where they don't lie
 /// apart in ascending order.
 #[derive(Drop)]
 pub struct SiteRows {
@@ -23,7 +23,7 @@ pub struct SiteRows {
 }
 
 impl SiteRows {
-    /// What is stored of the rows of the site with that number.
+    /// The stored rows of the site with that number.
     pub fn rows_of(&self, number: usize) -> &[CallRow]
         requires there { number + 1 < length self.now.starts.items }
         requires ascend { slice_index self.now.starts.items number
@@ -43,7 +43,7 @@ impl SiteRows {
     }
 }
 
-/// The rows of the site with that number, by where those of each site start.
+/// The rows of the site with that number, from the starts of the rows of each site.
 pub fn rows_of_site<'r>(rows: &'r [CallRow], starts: &[u32], number: usize) -> &'r [CallRow]
     requires there { number + 1 < length starts.now }
     requires ascend { slice_index starts.now number ≤ slice_index starts.now (number + 1) }

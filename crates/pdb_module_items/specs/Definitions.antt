@@ -36,7 +36,7 @@ aggregate_of (Plain (forms.Union t)) =
     }
 aggregate_of t = None
 
--- the class or union of a type that was read; what can't be read is none
+-- the class or union of a type that was read; none where it can't be read
 abbrev pub read_aggregate : Result TypeForm container_fault.Fault → Option Aggregate
 read_aggregate (Ok t) = aggregate_of t
 read_aggregate (Err e) = None
@@ -49,7 +49,7 @@ aggregate_size_of wanted a = size_if_defined wanted a.is_forward_reference a.nam
 abbrev pub gathered : BTreeMap (Bor (List ℕ)) ℕ → List ℕ → Option ℕ
 gathered definitions wanted = get_by (λ k. slice_cmp nat_cmp wanted k.now) definitions
 
--- the size of a forward reference: that which is stored under its name, or else its own
+-- the size of a forward reference: the size stored under its name, or else its own
 abbrev pub reference_bytes : BTreeMap (Bor (List ℕ)) ℕ → Aggregate → ℕ
 reference_bytes definitions a = unwrap_or (gathered definitions a.name) a.size
 
@@ -62,12 +62,12 @@ Gathers old new a = (wanted : List ℕ)
 abbrev pub definition : List ℕ → ℕ → Aggregate
 definition name size = record { is_forward_reference = false; name = name; size = size }
 
--- a forward reference has the size of the type at that index, by what is stored
+-- a forward reference has the size of the type at that index, from the stored sizes
 abbrev pub IsReferenceSize : Table → ℕ → BTreeMap (Bor (List ℕ)) ℕ → Aggregate → Type 0
 IsReferenceSize types index definitions a =
     a.is_forward_reference ≡ true → IsSize types index (reference_bytes definitions a)
 
--- What is stored under each name is the size by its first definition from an index on.
+-- The size stored under each name is that of its first definition from an index on.
 pub record AreDefinitions (types : Table) (index : ℕ) (definitions : BTreeMap (Bor (List ℕ)) ℕ) :
     Type 0 where
   pub each : (wanted : List ℕ) → gathered definitions wanted

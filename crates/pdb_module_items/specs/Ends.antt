@@ -1,4 +1,4 @@
--- What is known of a table that is read on demand.
+-- The state of a table that is read on demand.
 use Rattle.std.specs.Prelude.{◌≡◌, ℕ, ◌-◌, ◌<◌, ◌≤◌, None, Ok, Err}
 use Rattle.pdb_container.specs.Fault.{TypeNotFound, fault_of, IsOfBytes}
 use Rattle.pdb_container_types.specs.Items.{Table, items_of, item_number, item_at}
@@ -8,14 +8,14 @@ use Rattle.pdb_container_types.specs.declared.item_iter.Progress.TheVariants as 
 use Rattle.pdb_module_items.specs.declared.item_map.End.{End}
 use Rattle.pdb_module_items.specs.declared.item_map.End.TheVariants as ends
 
--- What is known of the list's end is right, where the items before an index were gone over.
+-- The known end of the list is right, where the items before an index were gone over.
 abbrev pub IsRightEnd : Table → ℕ → Progress → End → Type 0
 IsRightEnd t index p ends.Ahead = p ≡ progress.Reading
 IsRightEnd t index p ends.Good = item_number (items_of t) (index - t.minimum) ≡ Ok None
 IsRightEnd t index p (ends.Bad e) = IsOfBytes e
     × (item_number (items_of t) (index - t.minimum) ≡ Err (fault_of e))
 
--- A finder was shown all that an iterator went over, and what is known of the end is right.
+-- A finder was shown all that an iterator went over, and the known end is right.
 pub record IsShown (f : Finding) (it : ItemIteration) (end : End) : Type 0 where
   pub table : it.table ≡ f.table
   pub before : it.index < first_unknown f
@@ -29,7 +29,7 @@ IsReached f ends.Good index = first_unknown f ≤ index
 IsReached f (ends.Bad e) index = IsOfBytes e
     × (first_unknown f ≤ index → item_at f.table index ≡ Err (fault_of e))
 
--- what is stored of a table: its bounds, and what was shown of it
+-- the values stored of a table: its bounds, and the parts of it that were shown
 pub record IsKept (f : Finding) (it : ItemIteration) (end : End) (minimum maximum : ℕ) :
     Type 0 where
   pub low : minimum ≡ f.table.minimum

@@ -21,6 +21,6 @@ abbrev pub IsSize : Table → ℕ → ℕ → Type 0
 IsSize types index size = (pointer_size : ℕ) (of : ℕ → ℕ)
     → size ≡ read_bytes types pointer_size of index (type_in types index)
 
--- Each size that is cached is that of the type at its index.
+-- Each cached size is that of the type at its index.
 pub record AreSizes (types : Table) (sizes : BTreeMap ℕ ℕ) : Type 0 where
   pub each : (index size : ℕ) → get nat_cmp sizes index ≡ Some size → IsSize types index size

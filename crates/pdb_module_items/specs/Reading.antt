@@ -16,8 +16,8 @@ use Rattle.pdb_resolving.specs.Fault.{Fault, lifted}
 use Rattle.pdb_resolving.specs.Resolving.{Kept, Modules, Provided, modules_by, resolve}
 use Rattle.pdb_resolving.specs.Resolving.{with_failed as modules_with_failed}
 
--- what types and ids are read from: the modules, the tables of types and of ids, and how many bytes
--- a pointer has
+-- the parts from which types and ids are read: the modules, the tables of types and of ids, and the
+-- number of bytes of a pointer
 pub record Parts : Type 0 where
   pub modules : Modules
   pub types : Table
@@ -48,7 +48,7 @@ id_at p asking index = do
   resolved ← resolve p.modules asking index
   of_no_table (id_in p.ids resolved)
 
--- how many bytes a machine's pointers have
+-- the number of bytes of a machine's pointers
 abbrev pub pointer_bytes : MachineType → ℕ
 pointer_bytes machines.Amd64 = 8
 pointer_bytes machines.Arm64 = 8
@@ -59,7 +59,7 @@ pointer_bytes (machines.Other n) = 4
 
 -- ---- parts as they are stored
 
--- what a reader of types and ids stores
+-- the parts that a reader of types and ids stores
 pub record Reading (P : Type 0) : Type 0 where
   pub modules : Kept P
   pub types : Table
@@ -75,7 +75,7 @@ reading_for image modules types ids = record {
   pointer_size = pointer_bytes (machine_of image.machine);
 }
 
--- those parts, by what the provider gives
+-- the parts of a reader, with the provider's answers
 
 abbrev pub parts_by : {P : Type 0} → (P → Provided) → Reading P → Parts
 parts_by provided r =
@@ -86,6 +86,6 @@ parts_by provided r =
       pointer_size = r.pointer_size;
     }
 
--- what a reader stores, with one more table of a module stored as failed
+-- the parts that a reader stores, with one more table of a module stored as failed
 abbrev pub with_failed : {P : Type 0} → Reading P → TableOfModule → Reading P
 with_failed r table = record r { modules = modules_with_failed r.modules table }

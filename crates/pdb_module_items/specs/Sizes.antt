@@ -93,7 +93,7 @@ form_size wanted (Plain (forms.Union t)) =
     size_if_defined wanted (is_forward t.properties) (key_name t.name t.unique_name) t.size
 form_size wanted t = None
 
--- the size that a type states, if it was read; what can't be read states none
+-- the size that a type states, if it was read; none where it can't be read
 abbrev pub defined_size : List ℕ → Result TypeForm container_fault.Fault → Option ℕ
 defined_size wanted (Ok t) = form_size wanted t
 defined_size wanted (Err e) = None
@@ -119,8 +119,8 @@ abbrev pub definition_behind : Table → ℕ → List ℕ → Option ℕ
 definition_behind types index wanted =
     first_definition wanted (index_past types index) (records_from types (index_past types index))
 
--- a class's or a union's own size, or that of its definition, where it is a forward reference and
--- there is one
+-- the own size of a class or a union, or the size of its definition, where it is a forward
+-- reference and there is a definition
 abbrev pub aggregate_bytes : Table → ℕ → (is_forward_reference : Bool) → List ℕ → ℕ → ℕ
 aggregate_bytes types index is_forward_reference name size =
     if is_forward_reference then unwrap_or (definition_behind types index name) size
@@ -169,7 +169,7 @@ form_bytes types pointer_size of index (Plain (forms.Modifier t)) = of (t.underl
 form_bytes types pointer_size of index (Plain (forms.Enumerate t)) = variant_bytes t.value
 form_bytes types pointer_size of index t = 0
 
--- the size of a type that was read; what can't be read has the size 0
+-- the size of a type that was read; 0 where it can't be read
 abbrev pub read_bytes : Table → ℕ → (ℕ → ℕ) → ℕ → Result TypeForm Fault → ℕ
 read_bytes types pointer_size of index (Ok t) = form_bytes types pointer_size of index t
 read_bytes types pointer_size of index (Err e) = 0
@@ -181,7 +181,7 @@ resolved_bytes types pointer_size of (Ok index) =
 resolved_bytes types pointer_size of (Err e) = 0
 
 -- the size of the type with an index as a module names it, in at most that many steps from type to
--- type; past these 0
+-- type; 0 past these steps
 unfoldable pub size_within : Parts → ℕ → ℕ → ℕ → ℕ
 size_within p asking zero index = 0
 size_within p asking (suc steps) index = resolved_bytes p.types p.pointer_size
@@ -194,12 +194,12 @@ size_at p asking index = size_within p asking 1024 index
 
 -- ---- sizes as they are worked out
 
--- what is known of a size, where the sizes of other types are given
+-- the bytes of a stated size, where the sizes of other types are given
 abbrev pub stated_bytes : (ℕ → ℕ) → Stated → ℕ
 stated_bytes of (stated.Bytes size) = size
 stated_bytes of (stated.SameAs index) = of index.0
 
--- What is known of a size is that of a type's form, whatever the sizes of other types.
+-- The stated size is that of a type's form, whatever the sizes of other types.
 abbrev pub StatesForm : Table → ℕ → ℕ → TypeForm → Stated → Type 0
 StatesForm types pointer_size index t s =
     (of : ℕ → ℕ) → stated_bytes of s ≡ form_bytes types pointer_size of index t

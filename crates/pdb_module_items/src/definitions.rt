@@ -114,8 +114,8 @@ fn definition_behind(
     Ok(None)
 }
 
-/// A class's or a union's own size, or that of its definition, where it is a forward reference and
-/// there is one.
+/// The own size of a class or a union, or the size of its definition, where it is a forward
+/// reference and there is a definition.
 pub(crate) fn aggregate_size(
     alloc: Global,
     types: &mut ItemMap<'_, TypeIndex>,

@@ -18,10 +18,10 @@ use pdb_container_types::{
 use std::alloc::Global;
 use std::marker::Model;
 
-/// What is known of the end of a table's list.
+/// The known end of a table's list.
 #[derive(Clone, Copy)]
 pub enum End {
-    /// It wasn't reached yet.
+    /// The end wasn't reached yet.
     Ahead,
     /// The list ends well.
     Good,
@@ -30,7 +30,7 @@ pub enum End {
 }
 
 /// The items of a table by their indices. It goes over the table as far as it is asked, and stores
-/// where it has been.
+/// the places where it has been.
 #[derive(Drop)]
 pub struct ItemMap<'t, I> {
     minimum: u32,
@@ -208,7 +208,7 @@ fn advance<I: ItemIndex>(
     }
 }
 
-/// The item with an index that the finder knows, or else what the list's end says.
+/// The item with an index that the finder knows, or else the answer at the list's end.
 #[tactic(auto, using(crate::proofs::EndSteps::found_known, crate::proofs::EndSteps::past_ahead, crate::proofs::EndSteps::past_good, crate::proofs::EndSteps::past_bad))]
 fn find_or_end<'t, I: ItemIndex>(
     finder: &ItemFinder<'t, I>,

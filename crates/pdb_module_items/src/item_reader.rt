@@ -24,8 +24,8 @@ use pdb_symbols_modules::{DebugInformation, MachineType, Module};
 use std::alloc::{AllocError, Global};
 use std::marker::Model;
 
-/// How many types a size may lead through, the one that is asked for among them: as many as a path
-/// of a type's text has (`MAX_LENGTH` of `pdb_type_printing`).
+/// The number of types through which a size may lead, the one that is asked for among them: as many
+/// as a path of a type's text has (`MAX_LENGTH` of `pdb_type_printing`).
 const MOST_STEPS: u32 = 1024;
 
 /// Reads types and ids by their indices, as the modules of a database have them.
@@ -52,7 +52,7 @@ impl<'a, 's, P: ModuleProvider> Model for ItemReader<'a, 's, P> {
 }
 
 impl<'a, 's, P: ModuleProvider> ItemReader<'a, 's, P> {
-    /// A reader over what gives the modules, their entries in order, the image for which the
+    /// A reader over the provider of the modules, their entries in order, the image for which the
     /// database was written, the tables of types and of ids, and the table of names, if there is
     /// one. No table of a module stands as failed.
     ///
@@ -147,7 +147,7 @@ impl<'a, 's, P: ModuleProvider> ItemReader<'a, 's, P> {
         Ok(0)
     }
 
-    /// What is known of the size of the type with that index; 0 where it can't be read.
+    /// The stated size of the type with that index; 0 where it can't be read.
     fn stated(
         &mut self,
         alloc: Global,
@@ -165,7 +165,7 @@ impl<'a, 's, P: ModuleProvider> ItemReader<'a, 's, P> {
     }
 }
 
-/// How many bytes a machine's pointers have.
+/// The number of bytes of a machine's pointers.
 fn pointer_size(machine: MachineType) -> u64
     ensures { result ≡ pointer_bytes machine }
 {

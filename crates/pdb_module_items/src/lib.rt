@@ -1,6 +1,6 @@
 //! Types and ids by their indices as a module has them, and the sizes of types.
 //!
-//! What is cached of sizes may change. Sizes, and how many types one may lead through
+//! The cache of sizes may change. Sizes, and the number of types through which one may lead
 //! (`specs/Sizes`), may not.
 #![tactic(auto)]
 

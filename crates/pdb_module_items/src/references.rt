@@ -76,7 +76,7 @@ fn read_aggregate<'t>(alloc: Global, item: &Type<'t>) -> Result<Option<Aggregate
     }
 }
 
-/// Stores a definition's size under its name, in place of that of any definition after it.
+/// Stores a definition's size under its name, in place of the size of any definition after it.
 #[tactic(auto, using(crate::proofs::GatherSteps::name_kept))]
 fn keep_definition<'t>(
     definitions: &mut BTreeMap<&'t [u8], u64>,
@@ -89,7 +89,7 @@ fn keep_definition<'t>(
     Ok(())
 }
 
-/// The size of a forward reference: that of the first definition after it, or else its own.
+/// The size of a forward reference: the size of the first definition after it, or else its own.
 fn reference_size(definitions: &BTreeMap<&[u8], u64>, reference: &Aggregate<'_>) -> u64
     ensures { result ≡ reference_bytes definitions.now reference.now }
 {
@@ -171,7 +171,7 @@ fn past_items(types: &mut ItemMap<'_, TypeIndex>) -> u32
 }
 
 /// Stores the sizes of all forward references of a table, each under its index. When memory runs
-/// out, those of the last ones stay stored.
+/// out, the sizes of the last ones stay stored.
 #[tactic(auto, using(crate::proofs::GatherSteps::none_gathered))]
 pub(crate) fn update_forward_ref_size_map(
     alloc: Global,

@@ -18,7 +18,7 @@ use pdb_resolving::{Error, Result};
 use std::alloc::{AllocError, Global};
 use std::collections::BTreeMap;
 
-/// What a type says of its size.
+/// The size that a type states.
 #[derive(Clone, Copy)]
 pub(crate) enum Stated {
     /// A number of bytes.
@@ -95,7 +95,7 @@ fn union_size(
     )
 }
 
-/// What the type with that index of the table says of its size, where pointers have `pointer_size`
+/// The size that the type with that index of the table states, where pointers have `pointer_size`
 /// bytes.
 fn stated_size(
     alloc: Global,
@@ -137,8 +137,8 @@ pub(crate) fn read_type_in<'t>(
     Ok(item.parse(alloc)?)
 }
 
-/// What the type with that index of the table says of its size. Where it is a forward reference,
-/// the sizes of all forward references of the table are cached.
+/// The size that the type with that index of the table states. Where it is a forward reference, the
+/// sizes of all forward references of the table are cached.
 #[tactic(auto, using(crate::proofs::KeptSteps::size_read))]
 fn stated_and_kept(
     alloc: Global,
@@ -165,8 +165,8 @@ fn stated_and_kept(
     }
 }
 
-/// What is known of the size of the type with that index of the table, where none is cached; 0
-/// where it can't be read.
+/// The stated size of the type with that index of the table, where none is cached; 0 where it can't
+/// be read.
 fn read_stated(
     alloc: Global,
     types: &mut ItemMap<'_, TypeIndex>,
@@ -186,8 +186,8 @@ fn read_stated(
     }
 }
 
-/// What is known of the size of the type with that index of the table, by what is cached or else by
-/// its record; 0 where it can't be read.
+/// The stated size of the type with that index of the table, from the cache or else from its
+/// record; 0 where it can't be read.
 pub(crate) fn stated_in(
     alloc: Global,
     types: &mut ItemMap<'_, TypeIndex>,

@@ -17,8 +17,8 @@ use std::alloc::{AllocError, Global};
 use std::collections::BTreeMap;
 use std::marker::Model;
 
-/// The types of a table. When the size of a forward reference is first asked for, it caches the
-/// sizes of all of them, so that it goes over the table once for their definitions.
+/// The types of a table. When the size of a forward reference is first asked for, the sizes of all
+/// forward references are cached, so that the table is gone over once for their definitions.
 #[derive(Drop)]
 pub(crate) struct TypeSizeCache<'t> {
     types: ItemMap<'t, TypeIndex>,
@@ -61,8 +61,8 @@ impl<'t> TypeSizeCache<'t> {
         read_type_in(alloc, &mut self.types, index)
     }
 
-    /// What is known of the size of the type with that index of the table, where pointers have
-    /// `pointer_size` bytes; 0 where it can't be read.
+    /// The stated size of the type with that index of the table, where pointers have `pointer_size`
+    /// bytes; 0 where it can't be read.
     pub(crate) fn stated(
         &mut self,
         alloc: Global,

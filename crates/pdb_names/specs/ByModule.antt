@@ -1,4 +1,4 @@
--- What is cached by the index of a module and a number in it.
+-- Values that are cached by the index of a module and a number in it.
 use Rattle.std.specs.Prelude.{ℕ, Option, option_and_then, slice_get}
 use Rattle.std.specs.Ordering.{nat_cmp}
 use Rattle.std.specs.BTreeMap.{BTreeMap, get}

@@ -1,4 +1,4 @@
--- What is cached by the index of a module and a number in it, where places are numbered from 0 on.
+-- Values cached by the index of a module and a number in it, where places are numbered from 0 on.
 use Rattle.std.specs.Prelude.{◌≡◌, ℕ, ◌==◌, List, Option, Some, cond, option_and_then, slice_get}
 use Rattle.std.specs.Global.{Vec}
 use Rattle.pdb_names.specs.declared.by_number.ByNumber.{ByNumber}
@@ -19,7 +19,7 @@ kept_at kept m n = kept_among (slice_get kept.modules.items m) n
 pub record IsSamePlaces {V : Type 0} (before after : List (Option V)) : Type 0 where
   pub each : (n : ℕ) → kept_in after n ≡ kept_in before n
 
--- The value is at the number, and at each other number is what was there before.
+-- The value is at the number, and each other number has what it had before.
 pub record IsPut {V : Type 0} (before after : List (Option V)) (number : ℕ) (value : V) :
     Type 0 where
   pub each : (n : ℕ) → kept_in after n ≡ cond (n == number) (Some value) (kept_in before n)

@@ -1,4 +1,4 @@
--- What a formatter's calls for signatures answer, and what they leave.
+-- The answers of a formatter's calls for signatures, and what they leave.
 use Rattle.std.specs.Prelude.{ℕ, String, Result, string_bytes}
 use Rattle.pdb_container.specs.declared.index.TypeIndex.{TypeIndex}
 use Rattle.pdb_resolving.specs.declared.error.Error.{Error}

@@ -25,12 +25,12 @@ use Rattle.pdb_type_printing.specs.FormNames.{unhandled_id}
 use Rattle.pdb_type_printing.specs.Types.{Piece, Whole, visiting, returned_unless}
 use Rattle.pdb_names.specs.Functions.{MadeText, behind, method_text, name_and_arguments}
 
--- how the id of a scope is printed: the ids so far, the id, the text so far
+-- the printing of a scope's id: the ids so far, the id, the text so far
 abbrev pub VisitId : Type 0
 VisitId = Path → ℕ → Text → Printed
 
--- A piece of the text of ids: what texts are made of, how ids are printed, the ids so far, and the
--- text so far.
+-- A piece of the text of ids: the Env of texts, the printing of ids, the ids so far, and the text
+-- so far.
 abbrev pub IdPiece : Type 0
 IdPiece = Env → VisitId → Path → Text → Printed
 

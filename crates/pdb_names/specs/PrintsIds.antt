@@ -1,4 +1,4 @@
--- What a call of the printer appends for an id.
+-- The pieces of an id's text that a call of the printer appends.
 use Rattle.std.specs.Prelude.{String, Result}
 use Rattle.pdb_resolving.specs.declared.stop.Stop.{Stop}
 use Rattle.pdb_resolving.specs.Resolving.{Provided}

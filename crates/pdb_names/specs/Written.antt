@@ -10,8 +10,9 @@ abbrev pub IsMade : Result Text Fault → (Text → Type 0) → Type 0
 IsMade (Ok text) P = P text
 IsMade (Err e) P = ⊥
 
--- What a call that makes a text and hands it over by one call returned and left: the writer took
--- exactly this text; or it refused it; or no text was made, and the writer is as it was.
+-- A call that makes a text and hands it over by one call returned, and left the writer, so: the
+-- writer took exactly this text; or it refused it; or no text was made, and the writer is as it
+-- was.
 abbrev pub Emits : {W A : Type 0} → (W → Text → W → Type 0) → (W → Text → W → Type 0) → W
     → Result A Error → W → Result Text Fault → Type 0
 Emits taken refused old (Ok x) new made = IsMade made (λ text. taken old text new)

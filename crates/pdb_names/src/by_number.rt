@@ -26,8 +26,8 @@ fn make_places<V: Drop>(places: &mut Vec<Option<V>>, number: usize) -> Result<()
     Ok(())
 }
 
-/// Puts a value at a number, in place of any that was there, and returns how many places were made
-/// for it. When memory runs out, what is cached stays as it was.
+/// Puts a value at a number, in place of any that was there, and returns the number of places that
+/// were made for it. When memory runs out, what is cached stays as it was.
 fn put_at<V: Drop>(
     places: &mut Vec<Option<V>>,
     number: usize,
@@ -76,7 +76,7 @@ impl<V: Drop> ByNumber<V> {
     }
 
     /// Caches a value at a number in the module at `module_index`, in place of any that was cached
-    /// there, and returns how many places were made for it.
+    /// there, and returns the number of places that were made for it.
     ///
     /// # Errors
     /// `AllocError` when memory runs out. What is cached stays as it was then.

@@ -25,9 +25,9 @@ use pdb_type_printing::{Asker, ItemReader, TypeFormatterFlags, TypePrinter};
 use std::alloc::Global;
 
 impl<'a, 's, P: ModuleProvider> TypeFormatter<'a, 's, P> {
-    /// A formatter over what gives the modules, their entries in order, the image for which the
-    /// database was written, the tables of types and of ids, and the table of names, if there is
-    /// one. No table of a module stands as failed.
+    /// A formatter over the provider of the modules, their entries in order, the image for which
+    /// the database was written, the tables of types and of ids, and the table of names, if there
+    /// is one. No table of a module stands as failed.
     ///
     /// # Errors
     /// `OutOfMemory`, and no other.
@@ -94,7 +94,7 @@ impl<'a, 's, P: ModuleProvider> TypeFormatter<'a, 's, P> {
     /// it is the name alone.
     ///
     /// # Errors
-    /// The first fault in the order of printing: that of the type, `CircularTypeDefinition`,
+    /// The first fault in the order of printing: the type's, `CircularTypeDefinition`,
     /// `ArgumentTypeNotArgumentList` and others; a type inside that is missing or has no form has a
     /// text of its own. `OutOfMemory`. A module's imports or exports that couldn't be read are
     /// stored as failed. From the next call on, `ModuleImportsUnsuccessful` and
@@ -144,8 +144,8 @@ impl<'a, 's, P: ModuleProvider> TypeFormatter<'a, 's, P> {
         Ok(())
     }
 
-    /// The text of an id that has this index in the module at `module_index`, counted from 0: of a
-    /// function its signature in its scopes, of a string the string.
+    /// The text of an id that has this index in the module at `module_index`, counted from 0: for a
+    /// function its signature in its scopes, for a string the string.
     ///
     /// # Errors
     /// As [`TypeFormatter::format_function`], and `FunctionIdIsNotProcedureType`,
@@ -193,11 +193,11 @@ impl<'a, 's, P: ModuleProvider> TypeFormatter<'a, 's, P> {
         Ok(())
     }
 
-    /// Passes on a text, or the error that ended it; the table of a module that it is of is stored
-    /// as failed.
+    /// Passes on a text, or the error that ended it; the module's table that has the error is
+    /// stored as failed.
     ///
     /// # Errors
-    /// That which ended the text; `OutOfMemory`.
+    /// The error that ended the text; `OutOfMemory`.
     #[tactic(auto, using(crate::proofs::Leaving::leaves_text, crate::proofs::Leaving::leaves_error, crate::proofs::Leaving::leaves_table, pdb_resolving::proofs::Ending::ends_fails))]
     fn keep_failed(&mut self, made: stop::Result<String>) -> Result<String>
         ensures kept { (text : MadeText) → Finds string_bytes made text

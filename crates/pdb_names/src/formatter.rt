@@ -4,7 +4,7 @@ use crate::printer::FunctionPrinter;
 use pdb_resolving::ModuleProvider;
 use std::marker::Model;
 
-/// Makes the texts of types, functions and ids.
+/// A formatter, which makes the texts of types, functions and ids.
 pub struct TypeFormatter<'a, 's, P: ModuleProvider> {
     pub(crate) printer: FunctionPrinter<'a, 's, P>,
 }

@@ -22,7 +22,7 @@ use pdb_type_printing::{
 };
 
 impl<'a, 's, P: ModuleProvider> FunctionPrinter<'a, 's, P> {
-    /// Appends an id. What can't be read has a text of its own.
+    /// Appends an id. An id that can't be read has a text of its own.
     #[cycle(scopes)]
     pub(crate) fn emit_id_index(
         &mut self,
@@ -135,8 +135,8 @@ impl<'a, 's, P: ModuleProvider> FunctionPrinter<'a, 's, P> {
         self.emit_unscoped(asker, w, id, t)
     }
 
-    /// Appends the type that a function returns, by the function's type and the index of that. Its
-    /// path ends with it: so none lies on the stack while scopes are printed.
+    /// Appends the type that a function returns, from the function's type and the index of this
+    /// type. Its path ends with it: so none lies on the stack while scopes are printed.
     #[inline(never)]
     fn emit_returned(
         &mut self,

@@ -13,7 +13,7 @@ use pdb_resolving::ModuleProvider;
 use std::alloc::{AllocError, Global};
 use std::sync::ArcStr;
 
-/// About how many bytes of memory a name takes besides its text.
+/// The bytes of memory that a name takes besides its text, roughly.
 const PLACE_SIZE: usize = 80;
 
 /// The cached names of inlined functions, by module and id; `None` where an id has no text.
@@ -21,10 +21,10 @@ const PLACE_SIZE: usize = 80;
 pub struct InlineNames {
     /// The names, each under its id in its module.
     by_id: ByModule<Option<ArcStr>>,
-    /// About how many bytes they take.
+    /// The bytes of memory that the names take, roughly.
     cached: u64,
-    /// The most that one of them took: it may come on top, or two long names would forget each
-    /// other.
+    /// The most bytes that one of the names took: it may come on top, or two long names would
+    /// forget each other.
     greatest: u64,
 }
 

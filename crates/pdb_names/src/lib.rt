@@ -1,9 +1,10 @@
 //! Formatters: texts of functions and ids (signatures, functions in their scopes, strings) and
-//! sizes of types; and the names of functions by a formatter, which are cached.
+//! sizes of types; and the names of functions from a formatter, which are cached.
 //!
-//! How a text is put together, which names are cached and for how long may change. A text and a
-//! size may not, but for a difference from the ported crate that docs/DIFFERENCES.md names, nor the
-//! names of calls, which are those of the ported crate's formatter.
+//! The way in which a text is put together may change, and so may the names that are cached, and
+//! for how long. A text and a size may not, but for a difference from the ported crate that
+//! docs/DIFFERENCES.md names, nor may the names of calls, which are those of the ported crate's
+//! formatter.
 #![tactic(auto)]
 
 mod by_module;

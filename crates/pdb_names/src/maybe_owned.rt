@@ -11,7 +11,7 @@ ghost use Rattle.pdb_names.specs.contracts.maybe_owned.MaybeOwned.{the_row};
 pub enum MaybeOwned<'a, T> {
     /// The value itself.
     Owned(T),
-    /// A value that someone else owns.
+    /// A value that has another owner.
     Borrowed(&'a mut T),
 }
 

@@ -1,4 +1,4 @@
-//! What names functions.
+//! A namer of functions.
 
 ghost use Rattle.std.specs.Prelude.{◌≡◌};
 ghost use Rattle.std.specs.Arc.{arc_str_bytes};
@@ -18,13 +18,13 @@ use std::alloc::{AllocError, Global};
 use std::marker::Model;
 use std::sync::ArcStr;
 
-/// A namer of functions: a formatter of types, and caches of the names that were asked for. Its
-/// value is that of the formatter: which names are cached changes no name.
+/// A namer of functions: a formatter of types, and caches of the names that were asked for. The
+/// namer's value is the formatter's: the cached names change no name.
 pub struct Namer<'a, 's, P: ModuleProvider> {
     formatter: MaybeOwned<'a, TypeFormatter<'a, 's, P>>,
-    /// Those of inlined functions.
+    /// The names of inlined functions.
     inlined: InlineNames,
-    /// Those of procedures by their types.
+    /// The names of procedures by their types.
     typed: TypedNames<'a>,
 }
 
@@ -57,7 +57,7 @@ impl<'a, 's, P: ModuleProvider> Drop for Namer<'a, 's, P> {
 }
 
 impl<'a, 's, P: ModuleProvider> Namer<'a, 's, P> {
-    /// Names by a formatter, none of them cached yet.
+    /// A namer over a formatter, with no names cached yet.
     pub fn new(
         alloc: Global,
         formatter: MaybeOwned<'a, TypeFormatter<'a, 's, P>>,
@@ -98,7 +98,7 @@ impl<'a, 's, P: ModuleProvider> Namer<'a, 's, P> {
     }
 
     /// The name of a procedure by its type in the module at `module_index`, cached at the
-    /// procedure's own number; `None` where it has no text.
+    /// procedure's own number; `None` where the type has no text.
     ///
     /// # Errors
     /// `AllocError` when memory runs out.

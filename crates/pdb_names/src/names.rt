@@ -28,7 +28,7 @@ fn if_text(made: Result<String>) -> std::result::Result<Option<String>, AllocErr
     }
 }
 
-/// A name as it is stored, as text, and lent where it is text as it stands.
+/// A stored name as text: lent where its bytes are UTF-8, and copied otherwise.
 fn raw_text<'n>(alloc: Global, name: &RawString<'n>) -> std::result::Result<CowStr<'n>, AllocError>
     ensures { IfOk result (λ t. cow_str_bytes t ≡ utf8_lossy (raw_bytes name.now)) }
 {
@@ -57,7 +57,7 @@ pub fn inlinee_name<P: ModuleProvider>(
     if_text(made)
 }
 
-/// The name of a procedure by its type; `None` where it has no text.
+/// The name of a procedure by its type; `None` where the type has no text.
 ///
 /// # Errors
 /// `AllocError` when memory runs out.
@@ -134,12 +134,12 @@ pub fn shared_name(
     }
 }
 
-/// How many bytes of names of one kind may be cached before they are forgotten: 64 MB. It is a
+/// The bytes of names of one kind that may be cached before they are forgotten: 64 MB. It is a
 /// choice: 100,000 addresses of a database of 10 MB cache 20 MB in all, and with less, questions at
 /// random would make names again. docs/COSTS.md has it under what is cached.
 pub const CACHED_NAMES: u64 = 64 << 20;
 
-/// How many bytes of memory a name that may be missing takes, with as many more as its place takes.
+/// The bytes of memory that a name that may be missing takes, with as many more as its place takes.
 pub fn name_size(name: &Option<ArcStr>, place: usize) -> u64 {
     let text = match name {
         None => 0,

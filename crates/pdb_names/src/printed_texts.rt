@@ -12,7 +12,7 @@ use pdb_resolving::ModuleProvider;
 use pdb_resolving::stop::Result;
 use pdb_type_printing::{Asker, IndexPath, Seen};
 
-/// How many bytes most texts fit into, so that they aren't moved as they grow.
+/// The bytes into which most texts fit, so that they aren't moved as they grow.
 const USUAL_LENGTH: usize = 128;
 
 impl<'a, 's, P: ModuleProvider> FunctionPrinter<'a, 's, P> {
@@ -41,7 +41,7 @@ impl<'a, 's, P: ModuleProvider> FunctionPrinter<'a, 's, P> {
     /// The text of the id with that index.
     ///
     /// # Errors
-    /// As [`FunctionPrinter::function_text`].
+    /// The errors of [`FunctionPrinter::function_text`].
     #[tactic(auto, using(crate::proofs::PrintingFails::stops_ends))]
     pub fn id_text(&mut self, asker: Asker, id_index: IdIndex) -> Result<String>
         ensures same { self.new ≡ self.old }

@@ -1,4 +1,4 @@
-//! What prints functions and ids, over what prints types.
+//! The printer of functions and ids, over the printer of types.
 
 ghost use Rattle.std.specs.Prelude.{◌≡◌, Ok};
 ghost use Rattle.pdb_resolving.specs.Fault.{Answers};
@@ -9,7 +9,7 @@ use pdb_resolving::{ModuleProvider, Result};
 use pdb_type_printing::{Asker, TypePrinter};
 use std::marker::Model;
 
-/// Prints functions and ids by their indices, as the modules of a database have them.
+/// A printer of functions and ids by their indices, as the modules of a database have them.
 pub struct FunctionPrinter<'a, 's, P: ModuleProvider> {
     pub(crate) printer: TypePrinter<'a, 's, P>,
 }
@@ -30,7 +30,7 @@ impl<'a, 's, P: ModuleProvider> Drop for FunctionPrinter<'a, 's, P> {
 }
 
 impl<'a, 's, P: ModuleProvider> FunctionPrinter<'a, 's, P> {
-    /// Prints types by a printer of these.
+    /// A printer of functions and ids over this printer of types.
     pub fn new(printer: TypePrinter<'a, 's, P>) -> FunctionPrinter<'a, 's, P>
         ensures { result ≡ printer.entry }
     {

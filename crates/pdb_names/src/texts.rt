@@ -1,4 +1,4 @@
-//! Texts by a formatter that stays as it is.
+//! Texts from a formatter that stays as it is.
 
 ghost use Rattle.std.specs.Prelude.{◌≡◌, string_bytes};
 ghost use Rattle.pdb_resolving.specs.Fault.{Answers};
@@ -16,7 +16,7 @@ use std::alloc::Global;
 /// failed.
 ///
 /// # Errors
-/// Those of [`TypeFormatter::format_function`].
+/// The errors of [`TypeFormatter::format_function`].
 #[tactic(auto, using(pdb_resolving::proofs::Ending::ends_fails))]
 pub fn function_text_of<P: ModuleProvider>(
     formatter: &mut TypeFormatter<'_, '_, P>,
@@ -43,7 +43,7 @@ pub fn function_text_of<P: ModuleProvider>(
 /// The text that [`TypeFormatter::format_id`] returns. No table of a module is stored as failed.
 ///
 /// # Errors
-/// Those of [`TypeFormatter::format_id`].
+/// The errors of [`TypeFormatter::format_id`].
 #[tactic(auto, using(pdb_resolving::proofs::Ending::ends_fails))]
 pub fn id_text_of<P: ModuleProvider>(
     formatter: &mut TypeFormatter<'_, '_, P>,

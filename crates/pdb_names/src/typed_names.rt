@@ -14,19 +14,19 @@ use pdb_resolving::ModuleProvider;
 use std::alloc::{AllocError, Global};
 use std::sync::ArcStr;
 
-/// A procedure's name by its type, with what it was made of.
+/// A procedure's name by its type, with the name and the type that it was made of.
 #[derive(Drop)]
 pub struct TypedName<'a> {
     /// The procedure's name as it is stored.
     raw: RawString<'a>,
-    /// The index of its type.
+    /// The index of the procedure's type.
     type_index: TypeIndex,
     /// The text, if there is one.
     text: Option<ArcStr>,
 }
 
 impl<'a> TypedName<'a> {
-    /// Whether it was made of the name and the type of a procedure.
+    /// Whether the text was made of the name and the type of a procedure.
     fn is_name_of(&self, procedure: &Procedure<'_>) -> bool
         ensures { (result ≡ true) ↔ IsNamedBy procedure.now self.now }
     {
@@ -39,10 +39,10 @@ impl<'a> TypedName<'a> {
 pub struct TypedNames<'a> {
     /// The names, each at its procedure's number in its module.
     by_number: ByNumber<TypedName<'a>>,
-    /// About how many bytes they take.
+    /// The bytes of memory that the names take, roughly.
     cached: u64,
-    /// The most that one of them took, with the places made for it: it may come on top, or the last
-    /// names of a large module would forget all others.
+    /// The most bytes that one of the names took, with the places made for it: it may come on top,
+    /// or the last names of a large module would forget all others.
     greatest: u64,
 }
 
@@ -69,9 +69,9 @@ impl<'a> TypedNames<'a> {
         }
     }
 
-    /// The name of a procedure by its type in the module at `module_index`; `None` where it has no
-    /// text. It is made and cached at the procedure's number, unless it was cached before. Where
-    /// the names take more memory than they may, they are forgotten first.
+    /// The name of a procedure by its type in the module at `module_index`; `None` where the type
+    /// has no text. It is made and cached at the procedure's number, unless it was cached before.
+    /// Where the names take more memory than they may, they are forgotten first.
     ///
     /// # Errors
     /// `AllocError` when memory runs out. Nothing is cached then.

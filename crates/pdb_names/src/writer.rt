@@ -1,10 +1,10 @@
-//! What takes texts.
+//! Writers of texts.
 
 ghost use Rattle.std.specs.Prelude.{ℕ, List, OnOk, OnErr};
 
 use std::fmt::{Result, Write};
 
-/// What takes texts: each [`Write`], and a writer of one's own that also says when it refused one.
+/// A writer of texts: each [`Write`], and a writer of one's own that also says when it refused one.
 pub trait TextWriter {
     // a text was taken: the writer before, the text, and the writer after
     ghost has_taken: { Self → List ℕ → Self → Type 0 };
@@ -20,8 +20,8 @@ pub trait TextWriter {
         ensures err { OnErr result (has_refused self.old text.now self.new) };
 }
 
-/// A writer of std says by its own implementation what it took: of a `String`, that the text is
-/// appended. Of a text that it refused it says nothing.
+/// A writer of std, whose own implementation says what it took: a `String` has the text appended.
+/// Of a text that it refused it says nothing.
 impl<W: Write> TextWriter for W {
     ghost use Rattle.std.specs.Prelude.{⊤};
 

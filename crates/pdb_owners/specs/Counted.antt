@@ -1,4 +1,4 @@
--- What counting run by run adds to a table of keys, and how often it asks.
+-- The keys that counting run by run adds to a table, and the number of times that it asks.
 use Rattle.std.specs.Prelude.{◌≡◌, ℕ, ◌-◌, List, [], Some}
 use Rattle.std.specs.declared.cmp.Ordering.{Ordering}
 use Rattle.std.specs.declared.ops.Range.{Range}
@@ -14,7 +14,7 @@ use Rattle.pdb_owners.specs.Table.{IsCounted, IsWithin, count_in}
 
 -- ---- a range of addresses of the image
 
--- a table has for each answer how many addresses from s on and before e have it
+-- a table has for each answer the number of addresses from s on and before e that have it
 abbrev pub AreCounts : {K A : Type 0} → (A → A → Ordering) → List (A × ℕ) → Map → Keyed K A
     → ℕ → ℕ → Type 0
 AreCounts {K} {A} cmp table m keyed s e =
@@ -25,7 +25,7 @@ abbrev pub CountsAddresses : {K A : Type 0} → Map → Keyed K A → ℕ → �
 CountsAddresses m keyed s e table =
     IsCounted keyed.answer_of (counted_at m keyed.places) s (e - s) [] table
 
--- how many addresses of what the addresses from s on and before e become begin a piece
+-- the number of pieces that begin in the internal ranges of the addresses from s on and before e
 abbrev pub asked_pieces : {K A : Type 0} → Map → Keyed K A → ℕ → ℕ → ℕ
 asked_pieces m keyed s e = pieces m keyed.places s e
 

@@ -1,4 +1,4 @@
--- How many addresses each answer has, one by one; and how many pieces a range has.
+-- The number of addresses of each answer, one by one; and the number of pieces of a range.
 use Rattle.std.specs.Prelude.{ℕ, zero, suc, ◌+◌, ◌-◌, ◌^◌, Bool, false, not, ◌==◌, ◌&&◌, ◌||◌}
 use Rattle.std.specs.Prelude.{is_some, List, [], ◌∷◌, Option, None, Some, option_and_then}
 use Rattle.std.specs.Prelude.{if◌then◌else◌}
@@ -15,7 +15,7 @@ use Rattle.std.specs.declared.cmp.Ordering.{Ordering}
 use Rattle.pdb_owners.specs.Answers.{is_answer}
 use Rattle.pdb_owners.specs.Databases.{Database}
 
--- how many of so many numbers from one on pass a test
+-- the number of numbers that pass a test, of so many from one on
 unfoldable pub how_many : (ℕ → Bool) → ℕ → ℕ → ℕ
 how_many test from zero = 0
 how_many test from (suc n) = (if test from then 1 else 0) + how_many test (from + 1) n
@@ -31,19 +31,19 @@ abbrev pub is_last : Option ℕ → Bool
 is_last None = false
 is_last (Some x) = x == 2 ^ 32 - 1
 
--- what an address counts under: one that becomes 0xffffffff counts under nothing
+-- the answer that an address counts under; one that becomes 0xffffffff counts under nothing
 abbrev pub counted_at : {A : Type 0} → Map → Database A → ℕ → Option A
 counted_at m db a = if is_last (inner m a) then None else answer_of m db a
 
--- how many addresses from s on and before e have an answer
+-- the number of addresses from s on and before e that have an answer
 abbrev pub count : {A : Type 0} → (A → A → Ordering) → Map → Database A → ℕ → ℕ → A → ℕ
 count cmp m db s e f = how_many (λ a. is_answer cmp f (counted_at m db a)) s (e - s)
 
--- how many have none
+-- the number of addresses that have none
 abbrev pub count_of_none : {A : Type 0} → Map → Database A → ℕ → ℕ → ℕ
 count_of_none m db s e = how_many (λ a. not (is_some (counted_at m db a))) s (e - s)
 
--- how many have an answer of one database, and none of another one
+-- the number of addresses that have an answer of one database, and none of another one
 abbrev pub count_without : {A B : Type 0} → Map → Database A → Database B → ℕ → ℕ → ℕ
 count_without m db other s e =
     how_many (λ a. is_some (counted_at m other a) && not (is_some (counted_at m db a))) s (e - s)
@@ -64,13 +64,13 @@ abbrev pub begins : {A : Type 0} → List ImageSectionHeader → Database A → 
 begins sections db first x =
     (x == first) || (is_section_bound sections x || is_bound_in db (place sections x))
 
--- how many addresses of ranges pass a test, which is given the first of their range, too
+-- the number of addresses of ranges that pass a test, which is given the first of their range, too
 abbrev pub in_ranges : (ℕ → ℕ → Bool) → List (Range PdbInternalRva) → ℕ
 in_ranges test [] = 0
 in_ranges test (r ∷ ranges) =
     how_many (test r.start.0) r.start.0 (r.end.0 - r.start.0) + in_ranges test ranges
 
--- how many addresses of what the addresses from s on and before e become begin a piece
+-- the number of pieces that begin in the internal ranges of the addresses from s on and before e
 abbrev pub pieces : {A : Type 0} → Map → Database A → ℕ → ℕ → ℕ
 pieces m db s e = in_ranges (begins m.internal db) (internal_ranges m.to_internal s e)
 

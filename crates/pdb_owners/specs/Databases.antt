@@ -1,4 +1,4 @@
--- What a database answers for places, and runs of one answer.
+-- The answers of a database for places, and runs of one answer.
 use Rattle.std.specs.Prelude.{◌≡◌, ℕ, ◌+◌, ◌<◌, ◌≤◌, Bool, true, false, is_some, Option}
 use Rattle.std.specs.Prelude.{option_and_then}
 use Rattle.pdb_addresses.specs.Places.{Place}
@@ -6,14 +6,13 @@ use Rattle.pdb_addresses.specs.declared.internal_section_offset.PdbInternalSecti
   PdbInternalSectionOffset,
 }
 
--- the answer at each place, and whether the place is a bound: a start or an end of something that
--- answers are found by
+-- the answer at each place, and whether the place is a bound: the start or the end of something by
+-- which answers are found
 pub record Database (A : Type 0) : Type 0 where
   pub answer : Place → Option A
   pub is_bound : Place → Bool
 
--- what answers places by keys: the answer that a key stands for, if there is one, and the answers
--- at places
+-- answers by keys: the answer that a key stands for, if there is one, and the answers at places
 pub record Keyed (K A : Type 0) : Type 0 where
   pub answer_of : K → Option A
   pub places : Database A
@@ -22,8 +21,8 @@ pub record Keyed (K A : Type 0) : Type 0 where
 abbrev pub on : Place → ℕ → Place
 on p k = record { section = p.section; offset = p.offset + k }
 
--- what a database answers changes at its bounds alone: a place that is none has the answer of the
--- place before it in its section
+-- the answers of a database change at its bounds alone: a place that is no bound has the answer of
+-- the place before it in its section
 abbrev pub ChangesAtBounds : {A : Type 0} → Database A → Type 0
 ChangesAtBounds db = (p : Place) → db.is_bound (on p 1) ≡ false
     → db.answer (on p 1) ≡ db.answer p

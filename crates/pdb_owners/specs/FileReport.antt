@@ -8,8 +8,8 @@ use Rattle.pdb_owners.specs.Table.{IsTable, count_in}
 use Rattle.pdb_owners.specs.Texts.{by_file_text}
 
 -- a line for each file that some address has, in the order of their texts, each with its count, and
--- the counts of addresses without a known file, of those that have nothing, and of those that can't
--- be read
+-- the counts of addresses without a known file, of addresses that have nothing, and of addresses
+-- that can't be read
 pub record IsFileReport (m : Map) (db : Database FileAnswer) (s e : ℕ)
     (text : List ℕ) : Type 0 where
   pub table : List (FileAnswer × ℕ)

@@ -10,7 +10,7 @@ pub record Frame : Type 0 where
   pub line : Option ℕ
   pub row : Option FrameRow
 
--- where a function begins and ends, and its frames at a place, innermost first
+-- the start and the end of a function, and its frames at a place, innermost first
 pub record FunctionFrames : Type 0 where
   pub start_rva : ℕ
   pub end_rva : Option ℕ

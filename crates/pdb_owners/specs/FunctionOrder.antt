@@ -5,7 +5,7 @@ use Rattle.std.specs.Cmp.Lexicographic.{slice_cmp}
 use Rattle.std.specs.Option.{option_cmp}
 use Rattle.std.specs.Ordering.{nat_cmp, ordering_then}
 
--- where a function begins and ends, and its name
+-- the start and the end of a function, and its name
 pub record Function : Type 0 where
   pub start_rva : ℕ
   pub end_rva : Option ℕ

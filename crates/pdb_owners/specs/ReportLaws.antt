@@ -19,7 +19,7 @@ pub record CountsAddUp : Type 0 where
   pub none : (m : Map) (db : Database Function) (a b c : ℕ) → a ≤ b → b ≤ c
       → count_of_none m db a b + count_of_none m db b c ≡ count_of_none m db a c
 
--- What a table has for each answer determines it.
+-- The counts that a table has for each answer determine the table.
 pub record CountsDetermine : Type 0 where
   pub functions : (t u : List (Function × ℕ)) → IsTable function_cmp t → IsTable function_cmp u
       → ((f : Function) → count_in function_cmp t f ≡ count_in function_cmp u f) → t ≡ u
@@ -49,7 +49,7 @@ pub record FileReportsAddUp : Type 0 where
       → (f : FileAnswer)
       → count_in file_cmp p.table f + count_in file_cmp q.table f ≡ count_in file_cmp r.table f
   -- where each function has a file, no known file, or frames that can't be read, the counts are
-  -- those of all functions, and how many addresses have one of these and no function
+  -- those of all functions, and the number of addresses that have one of these and no function
   pub functions : (m : Map) (db : Database Function) (files : Database FileAnswer) (s e : ℕ)
       (x y : List ℕ) → s ≤ e
       → ((place : Place) → is_some (db.answer place) ≡ true → is_some (files.answer place) ≡ true)

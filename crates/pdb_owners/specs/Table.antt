@@ -8,7 +8,7 @@ use Rattle.std.specs.Map.{lookup, keys_of, values_of}
 use Rattle.pdb_owners.specs.Answers.{is_same, picked}
 use Rattle.pdb_owners.specs.Counts.{how_many}
 
--- what a table has for an answer; 0 where it isn't there
+-- the count of an answer in a table; 0 where it isn't there
 abbrev pub count_in : {A : Type 0} → (A → A → Ordering) → List (A × ℕ) → A → ℕ
 count_in cmp table f = unwrap_or (lookup (is_same cmp f) table) 0
 
@@ -21,7 +21,7 @@ pub record IsTable {A : Type 0} (cmp : A → A → Ordering) (table : List (A ×
   pub order : IsStrictlySortedBy cmp (keys_of table)
   pub some : All (λ n. 1 ≤ n) (values_of table)
 
--- the counts of those that pass a test
+-- the counts of the answers that pass a test
 abbrev pub sum_where : {A : Type 0} → (A → Bool) → List (A × ℕ) → ℕ
 sum_where test [] = 0
 sum_where test (e ∷ table) = (if test e.0 then e.1 else 0) + sum_where test table
@@ -31,7 +31,7 @@ abbrev pub sum_found : {K A : Type 0} → (K → Option A) → (A → Bool) → 
 sum_found found test table = sum_where (λ k. picked test (found k)) table
 
 -- a count of n, if it is a count of something, has come to a table, which has at most one more row
--- by it
+-- then
 pub record IsAdded {A : Type 0} (old : List (A × ℕ)) (answer : Option A) (n : ℕ)
     (new : List (A × ℕ)) : Type 0 where
   pub each : (test : A → Bool)
@@ -52,6 +52,6 @@ pub record IsResolved {K A : Type 0} (found : K → Option A) (keys : List (K ×
     (counts : List (A × ℕ)) : Type 0 where
   pub each : (test : A → Bool) → sum_where test counts ≡ sum_found found test keys
 
--- a number rose by at most as many as pass a test
+-- a number rose by at most the number of those that pass a test
 pub record IsWithin (test : ℕ → Bool) (from n old new : ℕ) : Type 0 where
   pub bound : new ≤ old + how_many test from n

@@ -29,7 +29,7 @@ size_lines table = flat_map size_text table
 abbrev pub sizes_text : List (Function × ℕ) → ℕ → List ℕ
 sizes_text table none = size_lines table ++ codes "none " ++ decimal none ++ 10 ∷ []
 
--- the line of a file and its count; what is no file has none
+-- the line of a file and its count; an answer that is no file has no line
 abbrev pub file_text : FileAnswer × ℕ → List ℕ
 file_text (Nothing, n) = []
 file_text (Unreadable, n) = []
@@ -41,7 +41,7 @@ abbrev pub file_lines : List (FileAnswer × ℕ) → List ℕ
 file_lines table = flat_map file_text table
 
 -- the report by file: a line for each file, and then the counts of addresses without a known file,
--- of those that have nothing, and of those that can't be read
+-- of addresses that have nothing, and of addresses that can't be read
 abbrev pub by_file_text : List (FileAnswer × ℕ) → ℕ → List ℕ
 by_file_text table none =
     file_lines table

@@ -1,9 +1,9 @@
-//! What is counted.
+//! Keys and answers that are counted.
 
 use std::cmp::Ord;
 
-/// What addresses are counted by, in an order in which none but one and the same are equal:
-/// functions, source files, and what tells these apart.
+/// Keys and answers by which addresses are counted: functions, source files, and the keys that tell
+/// these apart. Two that compare as equal in their order are the same.
 pub trait Countable: Ord + Drop {
     ghost use Rattle.std.specs.Prelude.{◌≡◌};
     ghost use Rattle.std.specs.declared.cmp.Ordering.TheVariants.{Equal};

@@ -12,7 +12,7 @@ use crate::countable::Countable;
 use std::cmp::Ordering;
 use std::marker::Model;
 
-/// The file of an address: that of the outermost frame, which is the function's.
+/// The file of an address: the file of the outermost frame, which is the function's.
 #[derive(Debug, Drop)]
 pub enum FileAnswer {
     /// There is no function.
@@ -38,7 +38,7 @@ impl FileAnswer {
         }
     }
 
-    /// Returns the file's text; an empty one where there is no file.
+    /// Returns the file's text; an empty text where there is no file.
     fn name(&self) -> &str
         ensures { result.now ≡ name_of (file_seen self.now) }
     {
@@ -52,7 +52,7 @@ impl FileAnswer {
 /// The file of an address, as it is counted.
 #[derive(Debug, Drop)]
 pub struct CountedFile {
-    /// The file, or why there is none.
+    /// The file, or the reason that there is none.
     pub answer: FileAnswer,
 }
 
@@ -64,7 +64,7 @@ impl Model for CountedFile {
     ghost view = { λ f. files.file_seen f.answer };
 }
 
-/// Two are equal where their kinds and their texts are.
+/// Two files are equal where their kinds and their texts are.
 impl PartialEq for CountedFile {
     ghost eq = { is_same file_cmp };
 
@@ -108,7 +108,7 @@ impl Ord for CountedFile {
     }
 }
 
-/// Two that compare as equal are one.
+/// Two files that compare as equal are one.
 impl Countable for CountedFile {
     ghost exact = { file_exact };
 }

@@ -1,4 +1,4 @@
-//! What tells the files of addresses apart, without their names.
+//! Keys that tell the files of addresses apart, without their names.
 
 ghost use Rattle.std.specs.Prelude.{◌≡◌, Some, refl};
 ghost use Rattle.std.specs.Cmp.{eq_by_cmp_equiv, partial_equiv_from_equiv};
@@ -10,8 +10,8 @@ ghost use Rattle.pdb_owners.specs.FileKeyOrder.{file_key_total, file_numbers};
 use crate::countable::Countable;
 use std::cmp::Ordering;
 
-/// What tells the files of addresses apart, without their names. Several keys may stand for the
-/// same file: the string table may hold a name more than once, and the end of a name is a name.
+/// A key that tells the files of addresses apart, without their names. Several keys may stand for
+/// the same file: the string table may hold a name more than once, and the end of a name is a name.
 #[derive(Clone, Copy, Debug)]
 pub enum FileKey {
     /// There is a function whose frames can't be read.
@@ -24,7 +24,7 @@ pub enum FileKey {
 }
 
 impl FileKey {
-    /// Returns the numbers that it is compared by.
+    /// Returns the numbers by which the key is compared.
     fn numbers(&self) -> (u8, u32)
         ensures { result ≡ file_numbers self.now }
     {

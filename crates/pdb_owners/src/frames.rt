@@ -14,11 +14,12 @@ use std::marker::Model;
 /// mostly lies before the function's.
 #[derive(Clone, Copy, Debug, PartialEq, Eq)]
 pub struct FrameRow {
-    /// The RVA at which its code begins.
+    /// The RVA at which the row's code begins.
     pub start_rva: u32,
-    /// The length of its code in bytes. A function's row goes on to the next entry of its line data
-    /// in the order of the file, and the last row to the end of what they cover. The length is
-    /// `None` where that lies before the row. An inlined call's is always known.
+    /// The length of the row's code in bytes. A function's row goes on to the next entry of its
+    /// line data in the order of the file, and the last row to the end of what the line data cover.
+    /// The length is `None` where this end lies before the row. The length of an inlined call's row
+    /// is always known.
     pub length: Option<u32>,
 }
 
@@ -53,9 +54,10 @@ impl<'a> Model for Frame<'a> {
 /// A function with the frames at an address in it.
 #[derive(Debug, Drop)]
 pub struct FunctionFrames<'a> {
-    /// The RVA at which it begins.
+    /// The RVA at which the function begins.
     pub start_rva: u32,
-    /// The RVA at which it ends, if that is known; the byte there isn't part of it.
+    /// The RVA at which the function ends, if it is known; the byte there isn't part of the
+    /// function.
     pub end_rva: Option<u32>,
     /// The inlined calls over the address, innermost first, and then the function itself.
     pub frames: Vec<Frame<'a>>,

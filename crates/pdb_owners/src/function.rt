@@ -15,11 +15,12 @@ use std::marker::Model;
 /// A function: where it begins and ends in the image, and its name.
 #[derive(Debug, Drop)]
 pub struct Function {
-    /// The RVA at which it begins.
+    /// The RVA at which the function begins.
     pub start_rva: u32,
-    /// The RVA at which it ends, if that is known; the byte there isn't part of it.
+    /// The RVA at which the function ends, if it is known; the byte there isn't part of the
+    /// function.
     pub end_rva: Option<u32>,
-    /// Its name, if it has one.
+    /// The function's name, if it has one.
     pub name: Option<String>,
 }
 

@@ -1,4 +1,4 @@
-//! What tells functions apart, without their names.
+//! Keys that tell functions apart, without their names.
 
 ghost use Rattle.std.specs.Prelude.{◌≡◌, Some, refl};
 ghost use Rattle.std.specs.Cmp.{eq_by_cmp_equiv, partial_equiv_from_equiv};
@@ -11,7 +11,7 @@ use crate::countable::Countable;
 use pdb_addresses::PdbInternalSectionOffset;
 use std::cmp::Ordering;
 
-/// What tells functions apart, without their names: what is found by one key is one function.
+/// A key that tells functions apart, without their names: what is found by one key is one function.
 #[derive(Clone, Copy, Debug)]
 pub enum FunctionKey {
     /// A procedure, by its module's index and its own index among that module's procedures.
@@ -22,7 +22,7 @@ pub enum FunctionKey {
 }
 
 impl FunctionKey {
-    /// Returns the index of its module.
+    /// Returns the index of the key's module.
     pub fn module_index(&self) -> u16
         ensures { result ≡ key_module self.now }
     {
@@ -33,7 +33,7 @@ impl FunctionKey {
         }
     }
 
-    /// Returns the numbers that it is compared by.
+    /// Returns the numbers by which the key is compared.
     fn numbers(&self) -> (u8, u16, usize, u32)
         ensures { result ≡ key_numbers self.now }
     {

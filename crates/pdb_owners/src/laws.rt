@@ -18,8 +18,8 @@ pub fn counts_add_up()
     ensures { CountsAddUp }
 {}
 
-/// What a table has for each function, or for each file, determines it: a report's lines and their
-/// order.
+/// The counts that a table has for each function, or for each file, determine the table: a report's
+/// lines and their order.
 pub fn tables_are_determined()
     ensures { CountsDetermine }
 {}
@@ -33,8 +33,8 @@ pub fn reports_add_up()
 
 /// The counts of a report by file, with the count of nothing, add up to the number of the range's
 /// addresses. Each function has to have a file, no known file, or frames that can't be read. Then
-/// they add up to the counts of all functions, and the number of addresses that have one of these
-/// and no function.
+/// the counts add up to the counts of all functions, and the number of addresses that have a file,
+/// no known file or such frames, and no function.
 pub fn file_reports_add_up()
     ensures { FileReportsAddUp }
 {}

@@ -1,9 +1,10 @@
-//! Which function or source file owns an address: each as it is answered, and its order; the frames
-//! at an address in a function; and how many addresses of a range each owns. These are counted by
-//! runs, with at most one lookup for each piece. It also writes the reports on them.
+//! Functions and source files that own addresses: each as it is answered, and its order; the frames
+//! at an address in a function; and the number of addresses of a range that each owns. Addresses
+//! are counted by runs, with at most one lookup for each piece. Reports of these numbers are
+//! written, too.
 //!
-//! How runs are counted may change, by at most one lookup for each piece. What owns an address, and
-//! a report's bytes and order, may not.
+//! The way in which runs are counted may change, by at most one lookup for each piece. The owner of
+//! an address, and a report's bytes and order, may not.
 #![tactic(auto)]
 
 mod countable;

@@ -1,4 +1,4 @@
-//! What answers places run by run.
+//! A trait for answers at places, run by run.
 
 ghost use Rattle.std.specs.Prelude.{◌≡◌, ℕ, ◌+◌, ◌-◌, ◌^◌, ◌≤◌, min, IfOk, OnOk};
 ghost use Rattle.pdb_owners.specs.Databases.{IsKeyAt, IsOneRun, Keyed, place_of};
@@ -7,25 +7,25 @@ use crate::countable::Countable;
 use pdb_addresses::PdbInternalSectionOffset;
 use std::alloc::{AllocError, Global};
 
-/// What answers places run by run, and counts how often it was asked. A run has a key in place of
-/// its answer, so that a long answer isn't made, copied or compared for each run.
+/// A value that answers places run by run, and counts how often it was asked. A run has a key in
+/// place of its answer, so that a long answer isn't made, copied or compared for each run.
 pub trait Runs {
-    /// What tells answers apart: a key stands for one answer, or for none. Several keys may stand
-    /// for the same answer.
+    /// The key that tells answers apart: a key stands for one answer, or for none. Several keys may
+    /// stand for the same answer.
     type Key: Countable;
 
-    /// What it answers.
+    /// The answer.
     type Found: Countable;
 
     ghost keyed: { Self → Keyed Self.Key Self.Found };
 
     ghost lookups: { Self → ℕ };
 
-    /// How often an answer was made of a key.
+    /// The number of times that an answer was made of a key.
     ghost answered: { Self → ℕ };
 
-    /// Returns a key of the answer at a place, and over how many places from it on there is no
-    /// bound, `limit` at most.
+    /// Returns a key of the answer at a place, and the number of places from it on without a bound,
+    /// `limit` at most.
     ///
     /// # Errors
     /// `AllocError` when memory runs out.

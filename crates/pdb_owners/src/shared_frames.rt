@@ -9,7 +9,7 @@ use std::borrow::CowStr;
 use std::marker::Model;
 use std::sync::ArcStr;
 
-/// A frame whose name is shared with what stores it. A copy of that name takes no memory.
+/// A frame whose name is shared with what stores it. A copy of the name takes no memory.
 #[derive(Debug, Drop)]
 pub struct SharedFrame<'a> {
     /// The function's name, if it has one.
@@ -41,9 +41,10 @@ impl<'a> Model for SharedFrame<'a> {
 /// A function with the frames at an address in it, whose names are shared.
 #[derive(Debug, Drop)]
 pub struct SharedFunctionFrames<'a> {
-    /// The RVA at which it begins.
+    /// The RVA at which the function begins.
     pub start_rva: u32,
-    /// The RVA at which it ends, if that is known; the byte there isn't part of it.
+    /// The RVA at which the function ends, if it is known; the byte there isn't part of the
+    /// function.
     pub end_rva: Option<u32>,
     /// The inlined calls over the address, innermost first, and then the function itself.
     pub frames: Vec<SharedFrame<'a>>,
@@ -78,7 +79,7 @@ pub fn owned_name(alloc: Global, name: &Option<ArcStr>) -> Result<Option<String>
 }
 
 impl<'a> SharedFrame<'a> {
-    /// Makes a frame with a name of its own that is equal in all fields.
+    /// Makes a frame that is equal in all fields, with a name of its own.
     ///
     /// # Errors
     /// `AllocError` when memory runs out.
@@ -97,7 +98,7 @@ impl<'a> SharedFrame<'a> {
 }
 
 impl<'a> SharedFunctionFrames<'a> {
-    /// Makes frames with names of their own that are equal in all fields.
+    /// Makes frames that are equal in all fields, with names of their own.
     ///
     /// # Errors
     /// `AllocError` when memory runs out.

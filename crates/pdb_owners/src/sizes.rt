@@ -18,17 +18,18 @@ use pdb_addresses::{AddressMap, PdbInternalRva, PdbInternalSectionOffset, Rva};
 use std::alloc::{AllocError, Global};
 use std::ops::Range;
 
-/// The sizes of a range: how many of its addresses have each answer, and how many have none.
+/// The sizes of a range: the number of its addresses with each answer, and with none.
 #[derive(Drop)]
 pub struct Sizes<A: Countable> {
-    /// Answers in their order, each with how many addresses it has.
+    /// Answers in their order, each with the number of its addresses.
     pub counts: Counts<A>,
-    /// How many addresses have none.
+    /// The number of addresses without an answer.
     pub none: u64,
 }
 
 /// Counts the answers of the addresses from `start` on and before `end`. It asks at most once for
-/// each piece, and once for the answer of each key that it found, of which there are no more.
+/// each piece, and once for the answer of each key that it found; there are no more keys than
+/// pieces.
 ///
 /// # Errors
 /// `AllocError` when memory runs out.
@@ -90,7 +91,7 @@ pub fn count_keys<R: Runs>(
     Ok(keys)
 }
 
-/// Returns the counts of the answers that keys stand for, each of which is asked for once.
+/// Returns the counts of the answers that keys stand for. The answer of each key is asked for once.
 fn resolve<R: Runs>(
     alloc: Global,
     runs: &mut R,

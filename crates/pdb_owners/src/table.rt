@@ -8,7 +8,7 @@ use std::alloc::{AllocError, Global};
 use std::collections::BTreeMap;
 use std::marker::Model;
 
-/// Answers in their order, each with its count: how many addresses it has, or how many bytes.
+/// Answers in their order, each with its count: the number of its addresses, or of its bytes.
 #[derive(Drop)]
 pub struct Counts<A: Countable> {
     by_answer: BTreeMap<A, u64>,
@@ -46,14 +46,14 @@ impl<A: Countable> Counts<A> {
         self.total
     }
 
-    /// Returns how many addresses an answer has; 0 where it isn't there.
+    /// Returns the number of addresses of an answer; 0 where it isn't there.
     pub(crate) fn count_of(&self, answer: &A) -> u64
         ensures { result ≡ count_in A.cmp self.now answer.now }
     {
         self.by_answer.get(answer).copied().unwrap_or(0)
     }
 
-    /// Returns them in their order, each with its count, which is 1 or more.
+    /// Returns answers in their order, each with its count, which is 1 or more.
     pub fn by_answer(&self) -> &BTreeMap<A, u64>
         ensures entries { result.now.entries ≡ self.now }
         ensures table { IsTable A.cmp self.now }

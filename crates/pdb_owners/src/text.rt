@@ -61,7 +61,7 @@ fn text_or_unknown(text: &Option<String>) -> &str
 }
 
 /// Returns the report by file: a line for each file, and then the numbers of addresses without a
-/// known file, of those that have nothing, and of those that can't be read.
+/// known file, of addresses that have nothing, and of addresses that can't be read.
 ///
 /// # Errors
 /// `AllocError` when memory runs out.

@@ -1,4 +1,4 @@
--- What a binary search finds among numbers in ascending order.
+-- The result of a binary search among numbers in ascending order.
 use Rattle.std.specs.Prelude.{◌≡◌, ℕ, ◌<◌, ◌≤◌, Some, List, [], ◌∷◌, length, slice_get}
 
 -- numbers in ascending order, none below `low`

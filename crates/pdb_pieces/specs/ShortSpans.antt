@@ -5,7 +5,8 @@ use Rattle.pdb_pieces.specs.declared.search.Stored.TheVariants.{Short, Whole}
 use Rattle.pdb_pieces.specs.declared.short_spans.ShortSpan.{ShortSpan}
 use Rattle.pdb_pieces.specs.declared.span.Span.{Span}
 
--- the rank of what begins at a place, by its code: the last code is for the offset of the place
+-- the rank of a span that begins at a place, by its code: the last code is for the offset of the
+-- place
 abbrev pub rank_by : ℕ → ℕ → ℕ
 rank_by start code = if nat_lt code 32767 then code else start % 8589934592
 

@@ -1,4 +1,4 @@
--- Which of many spans stands at a place, where places are numbers.
+-- Spans of places, where places are numbers, and which of many stands at a place.
 use Rattle.std.specs.Prelude.{◌≡◌, ℕ, ◌+◌, ◌*◌, ◌<◌, ◌≤◌, Option, Some, None, List, [], ◌∷◌}
 use Rattle.std.specs.Prelude.{if◌then◌else◌, ◌&&◌, nat_lt, nat_le, length, drop, map, slice_get}
 use Rattle.std.specs.Prelude.{slice_range, ◌++◌}
@@ -9,8 +9,8 @@ use Rattle.pdb_addresses.specs.declared.internal_section_offset.PdbInternalSecti
 use Rattle.pdb_pieces.specs.declared.span.Mark.{Mark}
 use Rattle.pdb_pieces.specs.declared.span.Span.{Span}
 
--- a place in a section as a number: 2 ^ 33 numbers for each section, so that what begins in one
--- ends before the next
+-- a place in a section as a number: 2 ^ 33 numbers for each section, so that a span that begins in
+-- one ends before the next
 abbrev pub place_number : PdbInternalSectionOffset → ℕ
 place_number place = place.section * 8589934592 + place.offset
 
@@ -24,7 +24,7 @@ better None b = b
 better (Some a) None = Some a
 better (Some a) (Some b) = if nat_lt a.rank b.rank then Some b else Some a
 
--- of the spans over a place the mark of the one of greatest rank, of equals the first
+-- the mark of the span of greatest rank over a place, of equals the first
 abbrev pub best : List Span → ℕ → Option Mark
 best [] p = None
 best (s ∷ rest) p = better (mark_over s p) (best rest p)
@@ -46,14 +46,14 @@ AreRuns spans from [] to = from ≡ to
 AreRuns spans from (end ∷ ends) to = (from ≤ end) × (end ≤ length spans)
     × ArePieces 0 18446744073709551615 (slice_range spans from end) × AreRuns spans end ends to
 
--- pieces were added that stand at each place with the better of what both lists stand with
+-- pieces were added that stand at each place with the better of the marks of both lists
 pub record AddsBetter (before after left right : List Span) : Type 0 where
   pub added : List Span
   pub is : after ≡ before ++ added
   pub pieces : ArePieces 0 18446744073709551615 added
   pub best : (p : ℕ) → best added p ≡ better (best left p) (best right p)
 
--- the first of what is left ends past `from`, and what is left is pieces
+-- the first of the spans that are left ends past `from`, and these spans are pieces
 abbrev pub IsRest : ℕ → ℕ → List Span → Type 0
 IsRest from high [] = Unit {0}
 IsRest from high (s ∷ rest) = (from < s.end) × (s.start < s.end) × ArePieces s.end high rest
@@ -80,7 +80,7 @@ pub record PieceHolds (pieces : List Span) (p i : ℕ) : Type 0 where
   pub from : piece.start ≤ p
   pub before : p < piece.end
 
--- where spans begin
+-- the starts of spans
 abbrev pub starts_of : List Span → List ℕ
 starts_of spans = map (λ s. s.start) spans
 
@@ -94,8 +94,8 @@ pub record IsOver (s : Span) (p : ℕ) : Type 0 where
   pub from : s.start ≤ p
   pub before : p < s.end
 
--- the mark is of a span over the place, no span over it has a greater rank, and none before that
--- span has its rank
+-- the mark is of a span over the place, no span over it has a greater rank, and no span before that
+-- one has its rank
 pub record IsGreatest (spans : List Span) (p : ℕ) (m : Mark) : Type 0 where
   pub number : ℕ
   pub span : Span

@@ -1,5 +1,5 @@
-//! A search by halving among what begins somewhere, which counts its probes; and how far it is to
-//! the next beginning.
+//! A search by halving among ascending beginnings, which counts its probes; and the distance to the
+//! next beginning.
 
 ghost use Rattle.std.specs.Prelude.{◌≡◌, ℕ, ◌+◌, ◌^◌, ◌<◌, ◌≤◌, map, length};
 ghost use Rattle.pdb_addresses.specs.SectionRun.{nearer as nearer_of, up_to_next};
@@ -7,16 +7,16 @@ ghost use Rattle.pdb_pieces.specs.Halving.{Ascend, IsSplit};
 
 use crate::span::Span;
 
-/// What begins at a place or an offset, as a number.
+/// A value that begins at a place or an offset, as a number.
 pub trait Begins {
     ghost beginning: { Self → ℕ };
 
-    /// Where it begins.
+    /// The number at which it begins.
     fn begins_at(&self) -> u64
         ensures { result ≡ beginning self.now };
 }
 
-/// A number begins where it says.
+/// A number begins at itself.
 impl Begins for u64 {
     ghost beginning = { λ n. n };
 
@@ -25,7 +25,7 @@ impl Begins for u64 {
     }
 }
 
-/// A number of 32 bits begins where it says.
+/// A number of 32 bits begins at itself.
 impl Begins for u32 {
     ghost beginning = { λ n. n };
 
@@ -43,8 +43,8 @@ impl Begins for Span {
     }
 }
 
-/// How many of what ascends begin at a place or before it, and how many were looked at. Each probe
-/// halves what is left: of n as many are looked at as n has binary digits, or one fewer.
+/// The number of ascending items that begin at a place or before it, and the number of probes. Each
+/// probe halves the rest: of n items as many are looked at as n has binary digits, or one fewer.
 pub fn count_begun<T: Begins>(items: &[T], place: u64) -> (usize, u32)
     requires { Ascend 0 (map T.beginning items.now) }
     ensures begun { IsSplit (map T.beginning items.now) place result.0 }
@@ -66,8 +66,8 @@ pub fn count_begun<T: Begins>(items: &[T], place: u64) -> (usize, u32)
     (low, probes)
 }
 
-/// Returns the lesser of `far` and the distance from a place to the next beginning past it, of what
-/// ascends. It halves, as `count_begun` does.
+/// Returns the lesser of `far` and the distance from a place to the next beginning past it, of
+/// ascending items. It halves, as `count_begun` does.
 pub fn to_next<T: Begins>(items: &[T], place: u64, far: u32) -> u32
     requires { Ascend 0 (map T.beginning items.now) }
     ensures { result ≡ up_to_next (map T.beginning items.now) place far }

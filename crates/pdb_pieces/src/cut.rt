@@ -14,16 +14,16 @@ use std::mem::swap;
 /// grows.
 const RUNS_AHEAD: usize = 16;
 
-/// What stands from a place on, and before which bound it may change.
+/// The mark that stands from a place on, and the bound before which it may change.
 #[derive(Clone, Copy)]
 struct Ahead {
-    /// What stands there.
+    /// The mark, if one stands there.
     mark: Option<Mark>,
-    /// Before which place it stands.
+    /// The bound before which it stands.
     until: u64,
 }
 
-/// What the spans stand with from a place on, where those from number `i` on count.
+/// The mark of the spans from a place on, where the spans from number `i` on count.
 fn look_ahead(spans: &[Span], i: usize, from: u64) -> Ahead
     requires { IsAhead spans.now i from u64.MAX }
     ensures stands { StandsWith spans.now from result.until result.mark }
@@ -120,7 +120,7 @@ fn push_joined(spans: &mut Vec<Span>, span: Span) -> Result<(), AllocError>
 }
 
 /// The spans that cover anything; neighbors of one mark, of which one goes on where the other ends,
-/// are one.
+/// are one span.
 fn joined(alloc: Global, spans: &[Span]) -> Result<Vec<Span>, AllocError>
     ensures wide { IfOk result (λ v. AreWide v.items) }
     ensures best { IfOk result (λ v. (p : ℕ) → best v.items p ≡ best spans.now p) }
@@ -134,7 +134,7 @@ fn joined(alloc: Global, spans: &[Span]) -> Result<Vec<Span>, AllocError>
     Ok(wide)
 }
 
-/// Where the runs end that spans are: each run goes on as long as they ascend and lie apart.
+/// The ends of the runs of spans: each run goes on as long as they ascend and lie apart.
 fn run_ends(alloc: Global, spans: &[Span]) -> Result<Vec<usize>, AllocError>
     requires { AreWide spans.now }
     ensures { IfOk result (λ v. AreRuns spans.now 0 v.items (length spans.now)) }

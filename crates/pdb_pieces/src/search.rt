@@ -86,7 +86,7 @@ fn end_numbered(stored: &Stored, number: usize) -> u64
     }
 }
 
-/// How many of short pieces begin at a place or before it, and how many were looked at.
+/// The number of short pieces that begin at a place or before it, and the number of probes.
 #[tactic(auto, using(crate::proofs::ShortSpanSteps::short_ascend, crate::proofs::ShortSpanSteps::short_probes, crate::proofs::ShortSpanSteps::short_fewest))]
 fn count_short(spans: &[ShortSpan], place: u64) -> (usize, u32)
     requires { ArePieces 0 u64.MAX (whole_spans spans.now) }
@@ -98,7 +98,7 @@ fn count_short(spans: &[ShortSpan], place: u64) -> (usize, u32)
     count_begun(spans, place)
 }
 
-/// How many of pieces begin at a place or before it, and how many were looked at.
+/// The number of pieces that begin at a place or before it, and the number of probes.
 #[tactic(auto, using(crate::proofs::ShortSpanSteps::whole_ascend))]
 fn count_whole(spans: &[Span], place: u64) -> (usize, u32)
     requires { ArePieces 0 u64.MAX spans.now }
@@ -109,7 +109,7 @@ fn count_whole(spans: &[Span], place: u64) -> (usize, u32)
     count_begun(spans, place)
 }
 
-/// How many of stored pieces begin at a place or before it, and how many were looked at.
+/// The number of stored pieces that begin at a place or before it, and the number of probes.
 fn count_stored(stored: &Stored, place: u64) -> (usize, u32)
     requires { ArePieces 0 u64.MAX (stored_spans stored.now) }
     ensures begun { IsSplit (starts_of (stored_spans stored.now)) place result.0 }
@@ -123,7 +123,7 @@ fn count_stored(stored: &Stored, place: u64) -> (usize, u32)
     }
 }
 
-/// The number of the stored piece that holds the place, and how many were looked at.
+/// The number of the stored piece that holds the place, and the number of probes.
 fn find_piece(stored: &Stored, place: u64) -> (Option<usize>, u32)
     requires { ArePieces 0 u64.MAX (stored_spans stored.now) }
     ensures one { (i : ℕ) → (result.0 ≡ Some i) ↔ PieceHolds (stored_spans stored.now) place i }
@@ -159,8 +159,8 @@ impl Pieces {
         Ok(Pieces { stored })
     }
 
-    /// The number of the one piece that holds the place, if one does, and how many pieces were
-    /// looked at: of n as many as n has binary digits, or one fewer.
+    /// The number of the one piece that holds the place, if one does, and the number of probes: of
+    /// n pieces as many as n has binary digits, or one fewer.
     pub fn at(&self, place: PdbInternalSectionOffset) -> (Option<usize>, u32)
         ensures one { (i : ℕ) → (result.0 ≡ Some i)
             ↔ PieceHolds self.now (number_of_place place) i }
@@ -171,7 +171,7 @@ impl Pieces {
         find_piece(&self.stored, place_number(place))
     }
 
-    /// What the piece that holds the place stands for.
+    /// The value of the piece that holds the place.
     pub fn value_at(&self, place: PdbInternalSectionOffset) -> Option<usize>
         ensures { result ≡ option_map (λ m. m.value) (best self.now (number_of_place place)) }
     {

@@ -7,19 +7,19 @@ use crate::ascending::Begins;
 use crate::span::{Mark, Span};
 use std::alloc::{AllocError, Global};
 
-/// How many codes of ranks there are.
+/// The number of codes of ranks.
 const CODES: u64 = 1 << 15;
 
 /// The code of the rank that is the offset of the first place. Other codes are ranks.
 const OFFSET: u64 = CODES - 1;
 
-/// How many numbers the places of a section have.
+/// The count of numbers for the places of one section.
 const SECTION: u64 = 1 << 33;
 
-/// Below which place a short span begins.
+/// The bound of places below which a short span begins.
 const PLACES: u64 = 1 << 49;
 
-/// How many places a short span may cover.
+/// The greatest number of places that a short span may cover.
 const MOST_PLACES: u64 = 1 << 32;
 
 /// A span that begins below 2^49, covers 2^32 places at most, and has a value of 32 bits and a rank
@@ -28,9 +28,9 @@ const MOST_PLACES: u64 = 1 << 32;
 pub struct ShortSpan {
     /// The first place, times 2^15, and the code of the rank.
     place_and_code: u64,
-    /// How far it is from the first place to the last one.
+    /// The distance from the first place to the last one.
     to_last: u32,
-    /// What stands there.
+    /// The value of the mark.
     value: u32,
 }
 
@@ -45,7 +45,7 @@ impl Begins for ShortSpan {
     }
 }
 
-/// The code of a rank of what begins at a place, if it has one.
+/// The code of the rank of a span that begins at a place, if it has one.
 fn code_of(start: u64, rank: u64) -> Option<u64>
     ensures few { IfSome result (λ code. code < 32768) }
     ensures rank { IfSome result (λ code. rank_by start code ≡ rank) }
@@ -59,7 +59,7 @@ fn code_of(start: u64, rank: u64) -> Option<u64>
     }
 }
 
-/// The rank of what begins at a place, by its code.
+/// The rank of a span that begins at a place, by its code.
 fn rank_of(start: u64, code: u64) -> u64
     ensures { result ≡ rank_by start code }
 {

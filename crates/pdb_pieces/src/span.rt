@@ -1,16 +1,16 @@
-//! Spans of places, which are numbers, and which of two marks stands where both would.
+//! Spans of places, which are numbers, and the better of two marks.
 
 ghost use Rattle.std.specs.Prelude.{◌≡◌};
 ghost use Rattle.pdb_pieces.specs.Spans.{better, place_number as number_of_place};
 
 use pdb_addresses::PdbInternalSectionOffset;
 
-/// What a span stands for, and how it fares against others.
+/// The value of a span, and its rank among others.
 #[derive(Clone, Copy, Debug, PartialEq, Eq)]
 pub struct Mark {
-    /// Of marks over one place the one of the greatest rank stands there.
+    /// The rank: of marks over one place the one of the greatest rank stands there.
     pub rank: u64,
-    /// What stands there: a number of the caller's.
+    /// The value: a number of the caller's.
     pub value: usize,
 }
 
@@ -21,12 +21,12 @@ pub struct Span {
     pub start: u64,
     /// The place after the last one.
     pub end: u64,
-    /// What stands there.
+    /// The mark of these places.
     pub mark: Mark,
 }
 
-/// A place as a number: 2^33 numbers for each section, so that what begins in one section ends
-/// before the next one's.
+/// A place as a number: 2^33 numbers for each section, so that a span that begins in one section
+/// ends before the next section's.
 pub fn place_number(place: PdbInternalSectionOffset) -> u64
     ensures { result ≡ number_of_place place }
 {

@@ -5,14 +5,14 @@ use std::alloc::Global;
 use std::cell::Cell;
 use std::io::{self, ErrorKind};
 
-/// How a view fails.
+/// The kind of error with which a view fails.
 #[derive(Clone, Copy)]
 pub enum Refusal {
     Other,
     Memory,
 }
 
-/// The bytes of a file. Views are counted from 0, and those with some numbers fail.
+/// The bytes of a file. Views are counted from 0, and views with some numbers fail.
 #[derive(Drop)]
 pub struct Failing<'c> {
     pub bytes: Vec<u8>,

@@ -54,7 +54,7 @@ fn sevens(alloc: Global, source: FileSource) -> Result<usize, Error> {
     Ok(stream.as_slice().iter().filter(|byte| **byte == 7).count())
 }
 
-/// That number of a file that is read on demand, and how often what was wanted was read.
+/// The same number of a file that is read on demand, and how often what was wanted was read.
 fn sevens_on_demand(alloc: Global, file: &Counting) -> Result<(usize, u32), Fail> {
     let mut views = FileViews::new(alloc, file.bytes.len() as u64)?;
     for rounds in 0..8 {

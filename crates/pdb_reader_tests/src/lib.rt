@@ -1,4 +1,4 @@
-//! Tests of what reads a database, layer by layer, where recorded cases can't show it.
+//! Tests of all that reads a database, layer by layer, where recorded cases can't show it.
 //!
 //! Tests may be added. An expected value comes from the format, never from this repository's code.
 #![tactic(auto)]

@@ -42,7 +42,7 @@ kind_number a = a.0 % 32
 abbrev pub mode_number : PointerAttributes → ℕ
 mode_number a = a.0 / 2 ^ 5 % 8
 
--- the kind and the mode are among those that there are
+-- the kind and the mode are known
 abbrev pub is_known_pointer : PointerAttributes → Bool
 is_known_pointer a = nat_le (kind_number a) 0xc && nat_le (mode_number a) 4
 
@@ -67,11 +67,11 @@ kind_numbered n =
     else (if n == 0xb then kinds.Far32
     else kinds.Ptr64)))))))))))
 
--- what a pointer of a known kind holds
+-- the kind of a pointer, where its number is known
 abbrev pub kind_of_pointer : PointerAttributes → PointerKind
 kind_of_pointer a = kind_numbered (kind_number a)
 
--- the mode of a pointer, by its number: what it leads to
+-- the mode of a pointer, by its number
 abbrev pub mode_numbered : ℕ → PointerMode
 mode_numbered n =
     if n == 0 then modes.Pointer
@@ -80,7 +80,7 @@ mode_numbered n =
     else (if n == 3 then modes.MemberFunction
     else modes.RValueReference)))
 
--- what a pointer of a known mode leads to
+-- the mode of a pointer, where its number is known
 abbrev pub mode_of_pointer : PointerAttributes → PointerMode
 mode_of_pointer a = mode_numbered (mode_number a)
 
@@ -88,7 +88,7 @@ mode_of_pointer a = mode_numbered (mode_number a)
 abbrev pub points_constant : PointerAttributes → Bool
 points_constant a = has_bit a.0 0x400
 
--- the size of a kind's pointers in bytes, where the pointer doesn't say it
+-- the size in bytes of a kind's pointers, where the pointer doesn't state it
 abbrev pub size_of_kind : ℕ → ℕ
 size_of_kind kind = if kind == 0xa || kind == 0xb then 4 else (if kind == 0xc then 8 else 0)
 

@@ -1,5 +1,5 @@
--- What a record says, with the bytes of its names and the elements of its lists in place of where
--- they lie.
+-- The form of a type's record: its fields, with the bytes of its names and the elements of its
+-- lists instead of references to them.
 use Rattle.std.specs.Prelude.{ℕ, List, Option}
 use Rattle.pdb_container.specs.declared.index.TypeIndex.{TypeIndex}
 use Rattle.pdb_records.specs.declared.primitive.PrimitiveType.{PrimitiveType}
@@ -39,7 +39,7 @@ pub record MemberForm : Type 0 where
   pub offset : ℕ
   pub name : List ℕ
 
--- methods of one name (LF_METHOD): how many, and the index of their list
+-- methods of one name (LF_METHOD): their number, and the index of their list
 pub record OverloadedMethodForm : Type 0 where
   pub count : ℕ
   pub method_list : TypeIndex
@@ -65,7 +65,8 @@ pub record NestedForm : Type 0 where
   pub nested_type : TypeIndex
   pub name : List ℕ
 
--- an enumeration (LF_ENUM): how many values, the index of their list, and the type that holds one
+-- an enumeration (LF_ENUM): the number of values, the index of their list, and the type that holds
+-- one
 pub record EnumerationForm : Type 0 where
   pub count : ℕ
   pub properties : TypeProperties
@@ -119,7 +120,7 @@ pub data PlainForm : Type 0 where
   Bitfield : BitfieldType → PlainForm
   ArgumentList : List TypeIndex → PlainForm
   MethodList : List MethodListEntry → PlainForm
-  -- what is none: a list of members
+  -- a list of members, which is no such type
   NotPlain : PlainForm
 
 -- a type; a list of members has no such list among them

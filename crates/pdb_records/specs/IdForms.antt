@@ -1,5 +1,5 @@
--- What a record of an id says, with the bytes of its name and the elements of its list in place of
--- where they lie.
+-- The form of an id's record: its fields, with the bytes of its name and the elements of its list
+-- instead of references to them.
 use Rattle.std.specs.Prelude.{ℕ, List, Option}
 use Rattle.pdb_container.specs.declared.index.TypeIndex.{TypeIndex}
 use Rattle.pdb_container.specs.declared.index.IdIndex.{IdIndex}
@@ -28,7 +28,7 @@ pub record StringForm : Type 0 where
   pub substrings : Option IdIndex
   pub name : List ℕ
 
--- what a record of an id says
+-- the form of an id's record
 pub data IdForm : Type 0 where
   Function : FunctionForm → IdForm
   MemberFunction : MemberFunctionForm → IdForm
@@ -37,21 +37,21 @@ pub data IdForm : Type 0 where
   String : StringForm → IdForm
   UserDefinedTypeSource : UserDefinedTypeSourceId → IdForm
 
--- what a function's value says
+-- the form of a function's value
 abbrev pub function_form : FunctionId → FunctionForm
 function_form t =
     record { scope = t.scope; function_type = t.function_type; name = raw_bytes t.name }
 
--- what a method's value says
+-- the form of a method's value
 abbrev pub member_function_form : MemberFunctionId → MemberFunctionForm
 member_function_form t =
     record { parent = t.parent; function_type = t.function_type; name = raw_bytes t.name }
 
--- what a text's value says
+-- the form of a text's value
 abbrev pub string_form : StringId → StringForm
 string_form t = record { substrings = t.substrings; name = raw_bytes t.name }
 
--- what an id's value says
+-- the form of an id's value
 abbrev pub id_shape : IdData → IdForm
 id_shape (ids.Function t) = Function (function_form t)
 id_shape (ids.MemberFunction t) = MemberFunction (member_function_form t)

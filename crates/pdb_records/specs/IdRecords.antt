@@ -72,8 +72,7 @@ string_at leaf bytes = do
   name ← name_at leaf substrings.1
   Ok (record { substrings = optional_id substrings.0; name = name.0 }, name.1)
 
--- what a type's place says, by the places of its numbers: a type, the id of a file's name, and the
--- line
+-- the source of a type, by the places of its numbers: a type, the id of a file's name, and the line
 abbrev pub source_in : List ℕ → UserDefinedTypeSourceId
 source_in bytes = record {
   udt = record { 0 = word_at bytes 0 };
@@ -81,14 +80,14 @@ source_in bytes = record {
   line = word_at bytes 8;
 }
 
--- LF_UDT_SRC_LINE, where a type begins: 12 bytes
+-- LF_UDT_SRC_LINE, the source of a type: 12 bytes
 unfoldable pub source_at : Reader UserDefinedTypeSourceId
 source_at bytes = do
   front ← bytes_of 12 bytes
   Ok (source_in front.0, front.1)
 
--- What a type's place in a module says, by the places of its numbers: a type, its file's offset in
--- the string table, the line, and the module's number.
+-- The source of a type in a module, by the places of its numbers: a type, its file's offset in the
+-- string table, the line, and the module's number.
 abbrev pub module_source_in : List ℕ → UserDefinedTypeSourceId
 module_source_in bytes = record {
   udt = record { 0 = word_at bytes 0 };
@@ -96,7 +95,7 @@ module_source_in bytes = record {
   line = word_at bytes 8;
 }
 
--- LF_UDT_MOD_SRC_LINE, where a type begins in a module: 14 bytes
+-- LF_UDT_MOD_SRC_LINE, the source of a type in a module: 14 bytes
 unfoldable pub module_source_at : Reader UserDefinedTypeSourceId
 module_source_at bytes = do
   front ← bytes_of 14 bytes
@@ -121,11 +120,11 @@ id_at leaf bytes =
     as_value forms.UserDefinedTypeSource (module_source_at bytes)
     else Err (UnimplementedTypeKind leaf)))))))
 
--- what the bytes after a leaf say
+-- the form of the bytes after a leaf
 unfoldable pub id_form_behind : ℕ → List ℕ → Result IdForm Fault
 id_form_behind leaf bytes = id_at leaf bytes >>= λ form. Ok form.0
 
--- what the bytes of an id's record say
+-- the form of an id's record, from its bytes
 unfoldable pub id_form_of : List ℕ → Result IdForm Fault
 id_form_of bytes = do
   leaf ← number_at w16 bytes

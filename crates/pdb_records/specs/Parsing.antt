@@ -1,4 +1,4 @@
--- What a call that parses a part of a record returns, and how far it advances.
+-- The result of a call that parses a part of a record, and how far it advances.
 use Rattle.std.specs.Prelude.{Result}
 use Rattle.pdb_container.specs.declared.error.Error.{Error}
 use Rattle.pdb_container.specs.Buffer.{Buffer, rest, ParsesFront}
@@ -10,7 +10,7 @@ use Rattle.pdb_records.specs.Forms.{PlainForm}
 use Rattle.pdb_records.specs.IdForms.{IdForm, id_shape}
 use Rattle.pdb_records.specs.Shapes.{plain_shape}
 
--- A call returned, seen by view, what reading the next field gives, and advanced past it.
+-- A call returned, seen by view, the next field's value or fault, and advanced past it.
 abbrev pub ParsesField : {X Y : Type 0} → (X → Y) → Result X Error → Buffer → Buffer → Reader Y
     → Type 0
 ParsesField view result old new read = ParsesFront view result (rest new) (read (rest old))

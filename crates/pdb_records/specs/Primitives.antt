@@ -1,6 +1,6 @@
 -- Primitive types, which have no record: the low byte of their index says the kind, the bits above
--- how a pointer to it is held. The numbers are TYPE_ENUM_e of microsoft-pdb's cvinfo.h, which
--- LLVM's The PDB TPI and IPI Streams describes.
+-- the indirection. The numbers are TYPE_ENUM_e of microsoft-pdb's cvinfo.h, which LLVM's The PDB
+-- TPI and IPI Streams describes.
 use Rattle.std.specs.Prelude.{ℕ, ◌/◌, ◌%◌, Option, Some, None, Result, Ok, Err, ◌==◌, if◌then◌else◌}
 use Rattle.pdb_container.specs.Fault.{Fault, TypeNotFound, ◌>>=◌}
 use Rattle.pdb_records.specs.declared.primitive.PrimitiveKind.{PrimitiveKind}
@@ -11,7 +11,7 @@ use Rattle.pdb_records.specs.declared.primitive.PrimitiveType.{PrimitiveType}
 use Rattle.pdb_records.specs.Forms as forms
 use Rattle.pdb_records.specs.Forms.{TypeForm}
 
--- how a pointer is held: 0 is the type itself, past 7 there is none
+-- the indirection with a number: 0 is the type itself, past 7 there is none
 unfoldable pub pointer_numbered : ℕ → Option (Option Indirection)
 pointer_numbered n =
     if n == 0 then Some None
@@ -82,19 +82,19 @@ older_kind_numbered n =
     else (if n == 0x24 then Some kinds.UOcta
     else real_kind_numbered n))))))))))))
 
--- a primitive type by its pointer and its kind, which both have to be known
+-- a primitive type from its indirection and its kind, which both have to be known
 abbrev pub primitive_from : ℕ → Option (Option Indirection) → Option PrimitiveKind
     → Result PrimitiveType Fault
 primitive_from index None kind = Err (TypeNotFound index)
 primitive_from index (Some pointer) None = Err (TypeNotFound index)
 primitive_from index (Some pointer) (Some kind) = Ok record { kind = kind; indirection = pointer }
 
--- the primitive type with that index: how it is held by the bits above the low byte, its kind by
--- the low byte
+-- the primitive type with that index: its indirection from the bits above the low byte, its kind
+-- from the low byte
 unfoldable pub primitive_of : ℕ → Result PrimitiveType Fault
 primitive_of index = primitive_from index (pointer_numbered (index / 256))
     (older_kind_numbered (index % 256))
 
--- the primitive type with that index, as what a type's record says
+-- the form of the primitive type with that index
 abbrev pub type_of_primitive : ℕ → Result TypeForm Fault
 type_of_primitive index = primitive_of index >>= λ t. Ok (forms.Plain (forms.Primitive t))

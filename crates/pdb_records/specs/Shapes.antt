@@ -1,4 +1,4 @@
--- What a type's value says, as a form.
+-- The form of a type's value.
 use Rattle.std.specs.Prelude.{ℕ, List, Option, map, option_map}
 use Rattle.pdb_container.specs.RawString.{raw_bytes}
 use Rattle.pdb_container.specs.declared.raw_string.RawString.{RawString}
@@ -21,16 +21,16 @@ use Rattle.pdb_records.specs.TypeLeaves.{FieldForm, Field, Continuation, Padding
 use Rattle.pdb_records.specs.Forms as forms
 use Rattle.pdb_records.specs.Forms.{PlainForm, TypeForm}
 
--- what a name and a unique name say
+-- the bytes of a name and of a unique name
 abbrev pub names_shape : RawString × Option RawString → List ℕ × Option (List ℕ)
 names_shape names = (raw_bytes names.0, option_map raw_bytes names.1)
 
--- what a size and the two names say
+-- a size, and the bytes of the two names
 abbrev pub sized_names_shape : ℕ × (RawString × Option RawString)
     → ℕ × (List ℕ × Option (List ℕ))
 sized_names_shape sized = (sized.0, names_shape sized.1)
 
--- what the value of a class, struct or interface says
+-- the form of the value of a class, struct or interface
 abbrev pub class_form : ClassType → forms.ClassForm
 class_form t =
     record {
@@ -45,7 +45,7 @@ class_form t =
       unique_name = option_map raw_bytes t.unique_name;
     }
 
--- what a member's value says
+-- the form of a member's value
 abbrev pub member_form : MemberType → forms.MemberForm
 member_form t =
     record {
@@ -55,12 +55,12 @@ member_form t =
       name = raw_bytes t.name;
     }
 
--- what the value of methods of one name says
+-- the form of the value of methods of one name
 abbrev pub overloaded_method_form : OverloadedMethodType → forms.OverloadedMethodForm
 overloaded_method_form t =
     record { count = t.count; method_list = t.method_list; name = raw_bytes t.name }
 
--- what a method's value says
+-- the form of a method's value
 abbrev pub method_form : MethodType → forms.MethodForm
 method_form t =
     record {
@@ -70,17 +70,17 @@ method_form t =
       name = raw_bytes t.name;
     }
 
--- what the value of a member that all objects share says
+-- the form of the value of a member that all objects share
 abbrev pub static_member_form : StaticMemberType → forms.StaticMemberForm
 static_member_form t =
     record { attributes = t.attributes; field_type = t.field_type; name = raw_bytes t.name }
 
--- what the value of a type named inside another one says
+-- the form of the value of a type named inside another one
 abbrev pub nested_form : NestedType → forms.NestedForm
 nested_form t =
     record { attributes = t.attributes; nested_type = t.nested_type; name = raw_bytes t.name }
 
--- what an enumeration's value says
+-- the form of an enumeration's value
 abbrev pub enumeration_form : EnumerationType → forms.EnumerationForm
 enumeration_form t =
     record {
@@ -92,11 +92,11 @@ enumeration_form t =
       unique_name = option_map raw_bytes t.unique_name;
     }
 
--- what the value of an enumeration's value says
+-- the form of the value of an enumeration's value
 abbrev pub enumerate_form : EnumerateType → forms.EnumerateForm
 enumerate_form t = record { attributes = t.attributes; value = t.value; name = raw_bytes t.name }
 
--- what an array's value says
+-- the form of an array's value
 abbrev pub array_form : ArrayType → forms.ArrayForm
 array_form t =
     record {
@@ -106,7 +106,7 @@ array_form t =
       dimensions = t.dimensions.items;
     }
 
--- what a union's value says
+-- the form of a union's value
 abbrev pub union_form : UnionType → forms.UnionForm
 union_form t =
     record {
@@ -147,23 +147,23 @@ plain_level (open_data.FieldList t) = forms.NotPlain
 abbrev pub plain_shape : TypeData → PlainForm
 plain_shape t = plain_level (out-TypeData t)
 
--- what the value of a list of members says
+-- the form of the value of a list of members
 abbrev pub field_list_shape : field_list.FieldList → TypeForm
 field_list_shape t = forms.FieldList (map plain_shape (field_list.out-FieldList t).fields.items)
     (field_list.out-FieldList t).continuation
 
--- what a type's value says, opened by one level
+-- the form of a type's value, opened by one level
 abbrev pub level : TypeData-F TypeData field_list.FieldList → TypeForm
 level (open_data.FieldList t) = field_list_shape t
 level t = forms.Plain (plain_level t)
 
--- what a type's value says
+-- the form of a type's value
 abbrev pub shape : TypeData → TypeForm
 shape t = level (out-TypeData t)
 
--- ---- what stands in a list of members
+-- ---- entries of a list of members
 
--- what an entry of a list of members says
+-- the form of an entry of a list of members
 abbrev pub field_form : FieldEntry → FieldForm
 field_form (entries.Field t) = Field (plain_shape t)
 field_form (entries.Continuation index) = Continuation index

@@ -1,5 +1,5 @@
--- Which record a leaf begins, and what the bytes of a type's record say. The leaves are LEAF_ENUM_e
--- of microsoft-pdb's cvinfo.h; those that end with _ST are the older ones.
+-- The record that a leaf begins, and the form of a type's record. The leaves are LEAF_ENUM_e of
+-- microsoft-pdb's cvinfo.h; those that end with _ST are the older ones.
 use Rattle.std.specs.Prelude.{ℕ, zero, suc, ◌-◌, true, false, max, ◌||◌, List, [], ◌∷◌, ◌++◌}
 use Rattle.std.specs.Prelude.{length, Option, Some, None, Result, Ok, Err, nat_le, ◌==◌}
 use Rattle.std.specs.Prelude.{if◌then◌else◌}
@@ -58,7 +58,7 @@ type_at leaf bytes =
     as_value forms.Array (array_at true bytes)
     else aggregate_at leaf bytes))))))))
 
--- the record after its leaf, of what a class inherits, of where its table of methods is, or of a
+-- the record after its leaf, of a base class, of the pointer to a virtual function table, or of a
 -- type
 unfoldable pub base_at : ℕ → Reader PlainForm
 base_at leaf bytes =
@@ -94,8 +94,8 @@ plain_at leaf bytes =
 
 -- ---- lists of members
 
--- what stands in a list of members: a member, the index of the list that continues it, or bytes to
--- be passed over
+-- an entry of a list of members: a member, the index of the list that continues it, or bytes to be
+-- passed over
 pub data FieldForm : Type 0 where
   Field : PlainForm → FieldForm
   Continuation : TypeIndex → FieldForm
@@ -113,7 +113,7 @@ field_behind leaf bytes =
     if leaf == 0x1404 then as_value Continuation (continuation_at bytes)  -- LF_INDEX
     else as_value Field (plain_at leaf bytes)
 
--- as many bytes, of which the first says how many: itself at least
+-- padding bytes, of which the first states their number: itself at least
 abbrev pub padding_at : ℕ → Reader FieldForm
 padding_at first bytes = as_value (λ skipped. Padding) (bytes_of (max 1 (first - 0xf0)) bytes)
 
@@ -152,13 +152,13 @@ field_list_of bytes = fields_within (length bytes) [] None bytes
 
 -- ---- a type's record
 
--- what the bytes after a leaf say: a list of members (LF_FIELDLIST), or another type
+-- the form of the bytes after a leaf: a list of members (LF_FIELDLIST), or another type
 unfoldable pub type_form_behind : ℕ → List ℕ → Result TypeForm Fault
 type_form_behind leaf bytes =
     if leaf == 0x1203 then field_list_of bytes  -- LF_FIELDLIST
     else (plain_at leaf bytes >>= λ form. Ok (forms.Plain form.0))
 
--- what the bytes of a type's record say
+-- the form of a type's record, from its bytes
 unfoldable pub type_form_of : List ℕ → Result TypeForm Fault
 type_form_of bytes = do
   leaf ← number_at w16 bytes

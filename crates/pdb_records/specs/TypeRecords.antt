@@ -62,8 +62,8 @@ pointer_front_at bytes = do
 
 -- ---- types of values
 
--- what a modifier says, by the places of its numbers: a type, and whether it is constant, volatile
--- or unaligned
+-- a modifier, by the places of its numbers: a type, and whether it is constant, volatile or
+-- unaligned
 abbrev pub modifier_in : List ℕ → ModifierType
 modifier_in bytes = record {
   underlying_type = record { 0 = word_at bytes 0 };
@@ -94,8 +94,8 @@ pointer_at bytes = do
     class.1,
   )
 
--- What a function's type says, by the places of its numbers: the returned type if there is one,
--- attributes, the number of parameters, and their list.
+-- A function's type, by the places of its numbers: the returned type if there is one, attributes,
+-- the number of parameters, and their list.
 abbrev pub procedure_in : List ℕ → ProcedureType
 procedure_in bytes = record {
   return_type = optional_type (word_at bytes 0);
@@ -110,8 +110,8 @@ procedure_at bytes = do
   front ← bytes_of 12 bytes
   Ok (procedure_in front.0, front.1)
 
--- What a method's type says, by the places of its numbers: the returned type, the class, the type
--- of `this` if there is one, attributes, the number of parameters, their list, and an adjustment.
+-- A method's type, by the places of its numbers: the returned type, the class, the type of `this`
+-- if there is one, attributes, the number of parameters, their list, and an adjustment.
 abbrev pub member_function_in : List ℕ → MemberFunctionType
 member_function_in bytes = record {
   return_type = record { 0 = word_at bytes 0 };
@@ -185,7 +185,7 @@ class_at leaf kind bytes = do
     behind.1,
   )
 
--- how many members, below 65536
+-- the number of members, below 65536
 unfoldable pub field_count_at : Reader ℕ
 field_count_at bytes = do
   count ← numeric_at bytes
@@ -284,7 +284,7 @@ static_member_at leaf bytes = do
     name.1,
   )
 
--- LF_METHOD: how many methods have the name, their list, and the name
+-- LF_METHOD: the number of methods that have the name, their list, and the name
 unfoldable pub overloaded_method_at : ℕ → Reader OverloadedMethodForm
 overloaded_method_at leaf bytes = do
   front ← half_and_type_at bytes

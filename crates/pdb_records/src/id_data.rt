@@ -1,4 +1,4 @@
-//! What a record of an id says (`LF_FUNC_ID` to `LF_UDT_MOD_SRC_LINE`).
+//! Ids of the IPI as values (`LF_FUNC_ID` to `LF_UDT_MOD_SRC_LINE`).
 
 use pdb_container::{IdIndex, RawString, StringRef, TypeIndex};
 
@@ -41,7 +41,7 @@ pub struct MemberFunctionId<'t> {
     pub name: RawString<'t>,
 }
 
-/// Build information (`LF_BUILDINFO`): how a module was built.
+/// Build information (`LF_BUILDINFO`) of a module.
 #[derive(Debug, Drop)]
 pub struct BuildInfoId {
     /// The ids of texts: the folder, the tool, its source, its database and its arguments.
@@ -73,7 +73,8 @@ pub enum UserDefinedTypeSourceFileRef {
     Remote(u16, StringRef),
 }
 
-/// The source of a type (`LF_UDT_SRC_LINE`, `LF_UDT_MOD_SRC_LINE`): where it is declared.
+/// The source of a type (`LF_UDT_SRC_LINE`, `LF_UDT_MOD_SRC_LINE`): the file and line of its
+/// declaration.
 #[derive(Clone, Copy, Debug, PartialEq, Eq)]
 pub struct UserDefinedTypeSourceId {
     /// The type.

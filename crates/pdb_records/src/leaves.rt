@@ -1,4 +1,4 @@
-//! Leaves (`LF_*`, LEAF_ENUM_e of microsoft-pdb's cvinfo.h): the numbers that say what a record is.
+//! Leaves (`LF_*`, LEAF_ENUM_e of microsoft-pdb's cvinfo.h): the numbers that name a record's kind.
 //! Names that end in `_ST` are those of older records, with Pascal strings.
 
 /// A base class.
@@ -130,7 +130,7 @@ pub const LF_FUNC_ID: u16 = 0x1601;
 /// A method's id.
 pub const LF_MFUNC_ID: u16 = 0x1602;
 
-/// How a module was built.
+/// Build information of a module.
 pub const LF_BUILDINFO: u16 = 0x1603;
 
 /// A list of the parts of a text.
@@ -139,8 +139,8 @@ pub const LF_SUBSTR_LIST: u16 = 0x1604;
 /// A text.
 pub const LF_STRING_ID: u16 = 0x1605;
 
-/// Where a type is declared, its file by an id.
+/// The source of a type, its file by an id.
 pub const LF_UDT_SRC_LINE: u16 = 0x1606;
 
-/// Where a type is declared, its file by the string table and with a module.
+/// The source of a type, its file by the string table and with a module.
 pub const LF_UDT_MOD_SRC_LINE: u16 = 0x1607;

@@ -106,7 +106,7 @@ fn parse_source<'t>(buffer: &mut ParseBuffer<'t>) -> Result<IdData<'t>>
     Ok(IdData::UserDefinedTypeSource(source_in(buffer.take(12)?)))
 }
 
-/// What the 12 bytes of a type's place say.
+/// The source of a type, from its 12 bytes.
 fn source_in(bytes: &[u8]) -> UserDefinedTypeSourceId
     requires { 12 ≤ length bytes.now }
     ensures { result ≡ source_of bytes.now }
@@ -127,7 +127,7 @@ fn parse_module_source<'t>(buffer: &mut ParseBuffer<'t>) -> Result<IdData<'t>>
     Ok(IdData::UserDefinedTypeSource(module_source_in(front)))
 }
 
-/// What the 14 bytes of a type's place in a module say.
+/// The source of a type in a module, from its 14 bytes.
 fn module_source_in(bytes: &[u8]) -> UserDefinedTypeSourceId
     requires { 14 ≤ length bytes.now }
     ensures { result ≡ module_source_of bytes.now }
@@ -140,7 +140,7 @@ fn module_source_in(bytes: &[u8]) -> UserDefinedTypeSourceId
     }
 }
 
-/// What follows the leaf at the beginning of a record.
+/// The id after the leaf at the beginning of a record.
 #[tactic(auto, unfolding(crate::specs::IdRecords::id_form_behind))]
 fn parse_behind<'t>(alloc: Global, buffer: &mut ParseBuffer<'t>, leaf: u16) -> Result<IdData<'t>>
     ensures { Gives id_shape ⊥ result (id_form_behind leaf (rest buffer.old)) }
@@ -157,7 +157,7 @@ fn parse_behind<'t>(alloc: Global, buffer: &mut ParseBuffer<'t>, leaf: u16) -> R
     }
 }
 
-/// What the bytes of an id's record say, which begin with its leaf.
+/// The id that the bytes of its record spell, from the leaf on.
 ///
 /// # Errors
 /// `UnexpectedEof` where bytes are missing, `UnimplementedTypeKind` at a leaf of no id,

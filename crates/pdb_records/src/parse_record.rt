@@ -64,7 +64,8 @@ fn parse_type<'t>(alloc: Global, buffer: &mut ParseBuffer<'t>, leaf: u16) -> Res
     }
 }
 
-/// What a class inherits, its table of methods, or a type. `UnimplementedTypeKind` at another leaf.
+/// A base class, the pointer to a virtual function table, or a type. `UnimplementedTypeKind` at
+/// another leaf.
 #[tactic(auto, unfolding(crate::specs::TypeLeaves::base_at))]
 fn parse_base<'t>(alloc: Global, buffer: &mut ParseBuffer<'t>, leaf: u16) -> Result<TypeData<'t>>
     ensures form { GivesFront plain_shape result (rest buffer.new)
@@ -101,7 +102,7 @@ fn parse_plain<'t>(alloc: Global, buffer: &mut ParseBuffer<'t>, leaf: u16) -> Re
     }
 }
 
-/// What stands in a list of members.
+/// An entry of a list of members.
 #[derive(Drop)]
 pub(crate) enum FieldEntry<'t> {
     Field(TypeData<'t>),
@@ -120,7 +121,7 @@ fn parse_continuation(buffer: &mut ParseBuffer<'_>) -> Result<TypeIndex>
     buffer.parse()
 }
 
-/// What follows a leaf in a list of members.
+/// The entry of a list of members after its leaf.
 #[tactic(auto, unfolding(crate::specs::TypeLeaves::field_behind))]
 fn parse_field_behind<'t>(
     alloc: Global,
@@ -135,7 +136,7 @@ fn parse_field_behind<'t>(
     Ok(FieldEntry::Field(parse_plain(alloc, buffer, leaf)?))
 }
 
-/// What stands next in a list of members. A byte from 0xf0 on begins padding, and its low four bits
+/// The next entry of a list of members. A byte from 0xf0 on begins padding, and its low four bits
 /// count it.
 #[tactic(auto, unfolding(crate::specs::TypeLeaves::field_at))]
 fn parse_field<'t>(alloc: Global, buffer: &mut ParseBuffer<'t>) -> Result<FieldEntry<'t>>
@@ -174,7 +175,7 @@ fn parse_field_list<'t>(alloc: Global, buffer: &mut ParseBuffer<'t>) -> Result<F
     })
 }
 
-/// What follows the leaf at the beginning of a record.
+/// The type after the leaf at the beginning of a record.
 #[tactic(auto, unfolding(crate::specs::TypeLeaves::type_form_behind))]
 fn parse_behind<'t>(alloc: Global, buffer: &mut ParseBuffer<'t>, leaf: u16) -> Result<TypeData<'t>>
     ensures { Gives shape ⊥ result (type_form_behind leaf (rest buffer.old)) }
@@ -185,7 +186,7 @@ fn parse_behind<'t>(alloc: Global, buffer: &mut ParseBuffer<'t>, leaf: u16) -> R
     parse_plain(alloc, buffer, leaf)
 }
 
-/// What the bytes of a type's record say, which begin with its leaf.
+/// The type that the bytes of its record spell, from the leaf on.
 ///
 /// # Errors
 /// `UnexpectedEof` where bytes are missing, `UnimplementedTypeKind` at a leaf of no type,

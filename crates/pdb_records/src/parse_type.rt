@@ -63,7 +63,7 @@ pub fn parse_modifier<'t>(buffer: &mut ParseBuffer<'t>) -> Result<TypeData<'t>>
     Ok(TypeData::Modifier(modifier_in(buffer.take(6)?)))
 }
 
-/// What the 6 bytes of a modifier say.
+/// The modifier, from its 6 bytes.
 fn modifier_in(bytes: &[u8]) -> ModifierType
     requires { 6 ≤ length bytes.now }
     ensures { result ≡ modifier_of bytes.now }
@@ -129,7 +129,7 @@ pub fn parse_procedure<'t>(buffer: &mut ParseBuffer<'t>) -> Result<TypeData<'t>>
     Ok(TypeData::Procedure(procedure_in(buffer.take(12)?)))
 }
 
-/// What the 12 bytes of a function's type say.
+/// The type of a function, from its 12 bytes.
 fn procedure_in(bytes: &[u8]) -> ProcedureType
     requires { 12 ≤ length bytes.now }
     ensures { result ≡ procedure_of bytes.now }
@@ -151,7 +151,7 @@ pub fn parse_member_function<'t>(buffer: &mut ParseBuffer<'t>) -> Result<TypeDat
     Ok(TypeData::MemberFunction(member_function_in(buffer.take(24)?)))
 }
 
-/// What the 24 bytes of a method's type say.
+/// The type of a method, from its 24 bytes.
 fn member_function_in(bytes: &[u8]) -> MemberFunctionType
     requires { 24 ≤ length bytes.now }
     ensures { result ≡ member_function_of bytes.now }
@@ -253,7 +253,8 @@ pub fn parse_class<'t>(
     }))
 }
 
-/// How many members a struct has, as newer compilers write it. `UnimplementedFeature` past 65535.
+/// The number of a struct's members, as newer compilers write it. `UnimplementedFeature` past
+/// 65535.
 #[tactic(auto, unfolding(crate::specs::TypeRecords::field_count_at))]
 fn parse_field_count(buffer: &mut ParseBuffer<'_>) -> Result<u16>
     ensures { ParsesFront (λ x. x) result (rest buffer.new) (field_count_at (rest buffer.old)) }

@@ -1,4 +1,4 @@
-//! Primitive types, which have no record: their index says what they are (TYPE_ENUM_e of
+//! Primitive types, which have no record: their index alone names them (TYPE_ENUM_e of
 //! microsoft-pdb's cvinfo.h).
 
 ghost use Rattle.std.specs.Prelude.{◌≡◌};
@@ -16,7 +16,7 @@ use pdb_container::{Error, Result, TypeIndex};
 pub struct PrimitiveType {
     /// The type.
     pub kind: PrimitiveKind,
-    /// How a pointer to it is held; `None` for the type itself.
+    /// The indirection of a pointer to it; `None` for the type itself.
     pub indirection: Option<Indirection>,
 }
 
@@ -66,25 +66,25 @@ pub enum PrimitiveKind {
     RChar32,
     /// An 8-bit character of UTF-8.
     Char8,
-    /// A signed 16-bit number, as `short`.
+    /// A signed 16-bit number, such as `short`.
     Short,
-    /// An unsigned 16-bit number, as `unsigned short`.
+    /// An unsigned 16-bit number, such as `unsigned short`.
     UShort,
     /// A signed 16-bit number.
     I16,
     /// An unsigned 16-bit number.
     U16,
-    /// A signed 32-bit number, as `long`.
+    /// A signed 32-bit number, such as `long`.
     Long,
-    /// An unsigned 32-bit number, as `unsigned long`.
+    /// An unsigned 32-bit number, such as `unsigned long`.
     ULong,
     /// A signed 32-bit number.
     I32,
     /// An unsigned 32-bit number.
     U32,
-    /// A signed 64-bit number, as `long long`.
+    /// A signed 64-bit number, such as `long long`.
     Quad,
-    /// An unsigned 64-bit number, as `unsigned long long`.
+    /// An unsigned 64-bit number, such as `unsigned long long`.
     UQuad,
     /// A signed 64-bit number.
     I64,
@@ -130,7 +130,7 @@ pub enum PrimitiveKind {
     Bool64,
 }
 
-/// How a pointer is held that has the number in its index: not at all for 0. None past 7.
+/// The indirection with that number in an index: the type itself for 0. None past 7.
 #[tactic(auto, unfolding(crate::specs::Primitives::pointer_numbered))]
 fn indirection_numbered(number: u32) -> Option<Option<Indirection>>
     ensures { result ≡ pointer_numbered number }
@@ -221,8 +221,7 @@ fn sized_kind(number: u32) -> Option<PrimitiveKind>
     }
 }
 
-/// The primitive type with that index: its low byte says the kind, the bits above how a pointer to
-/// it is held.
+/// The primitive type with that index: its low byte says the kind, the bits above the indirection.
 ///
 /// # Errors
 /// `TypeNotFound` where there is none.

@@ -135,7 +135,7 @@ impl PointerAttributes {
         PointerAttributes(bits)
     }
 
-    /// Whether the kind and the mode are among those that there are.
+    /// Whether the kind and the mode are known.
     pub(crate) fn is_known(self) -> bool
         ensures { result ≡ is_known_pointer self }
     {
@@ -149,7 +149,7 @@ impl PointerAttributes {
         matches!((self.0 >> 5) & 7, 2 | 3)
     }
 
-    /// What the pointer holds.
+    /// The kind of the pointer.
     pub fn pointer_kind(self) -> PointerKind
         ensures { result ≡ kind_of_pointer self }
     {
@@ -170,7 +170,7 @@ impl PointerAttributes {
         }
     }
 
-    /// What the pointer leads to.
+    /// The mode of the pointer.
     pub fn pointer_mode(self) -> PointerMode
         ensures { result ≡ mode_of_pointer self }
     {
@@ -183,14 +183,14 @@ impl PointerAttributes {
         }
     }
 
-    /// Whether the pointer itself, and not what it leads to, is constant.
+    /// Whether the pointer itself, and not the type to which it leads, is constant.
     pub fn is_const(self) -> bool
         ensures { result ≡ points_constant self }
     {
         self.0 & 0x400 != 0
     }
 
-    /// The pointer's size in bytes: its own, or else that of its kind. 0 where neither is known.
+    /// The pointer's size in bytes: its own, or else its kind's. 0 where neither is known.
     pub fn size(self) -> u8
         ensures { result ≡ size_of_pointer self }
     {

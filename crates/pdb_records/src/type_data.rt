@@ -1,4 +1,4 @@
-//! What a CodeView record of a type says (`LF_*`).
+//! Types of the TPI as values (`LF_*`).
 
 ghost use Rattle.std.specs.Prelude.{◌<◌, length};
 
@@ -8,7 +8,7 @@ use crate::type_attributes::{
 };
 use pdb_container::{RawString, TypeIndex, Variant};
 
-/// A type of the TPI, or what stands in a list of a type's members.
+/// A type of the TPI, or an entry of a list of a type's members.
 #[derive(Debug, Drop)]
 #[cycle(types)]
 pub enum TypeData<'t> {
@@ -73,9 +73,9 @@ pub enum ClassKind {
 /// `LF_STRUCTURE19`).
 #[derive(Clone, Copy, Debug, PartialEq, Eq)]
 pub struct ClassType<'t> {
-    /// Which of these it is.
+    /// The kind: class, struct or interface.
     pub kind: ClassKind,
-    /// How many members it has.
+    /// The number of its members.
     pub count: u16,
     /// Its properties, a forward reference among them.
     pub properties: TypeProperties,
@@ -109,26 +109,26 @@ pub struct MemberType<'t> {
 /// A member function (`LF_MFUNCTION`): the type of a method.
 #[derive(Clone, Copy, Debug, PartialEq, Eq)]
 pub struct MemberFunctionType {
-    /// The type of what it returns.
+    /// The return type.
     pub return_type: TypeIndex,
-    /// The class of which it is a method.
+    /// The class that has the method.
     pub class_type: TypeIndex,
     /// The type of `this`; `None` for a static method.
     pub this_pointer_type: Option<TypeIndex>,
     /// Its attributes, that of a constructor among them.
     pub attributes: FunctionAttributes,
-    /// How many parameters it has, as the record says.
+    /// The number of its parameters, as the record states it.
     pub parameter_count: u16,
     /// The list of its parameters' types.
     pub argument_list: TypeIndex,
-    /// What is added to `this` before the call, in bytes.
+    /// The number of bytes that are added to `this` before the call.
     pub this_adjustment: u32,
 }
 
 /// Overloaded methods (`LF_METHOD`), which share a name.
 #[derive(Clone, Copy, Debug, PartialEq, Eq)]
 pub struct OverloadedMethodType<'t> {
-    /// How many methods have the name.
+    /// The number of methods that have the name.
     pub count: u16,
     /// The list of these methods.
     pub method_list: TypeIndex,
@@ -211,11 +211,11 @@ pub struct VirtualFunctionTablePointerType {
 /// A procedure (`LF_PROCEDURE`): the type of a function that is no method.
 #[derive(Clone, Copy, Debug, PartialEq, Eq)]
 pub struct ProcedureType {
-    /// The type of what it returns, if one is named.
+    /// The return type, if one is named.
     pub return_type: Option<TypeIndex>,
     /// Its attributes.
     pub attributes: FunctionAttributes,
-    /// How many parameters it has.
+    /// The number of its parameters.
     pub parameter_count: u16,
     /// The list of its parameters' types.
     pub argument_list: TypeIndex,
@@ -224,7 +224,7 @@ pub struct ProcedureType {
 /// A pointer or a reference (`LF_POINTER`).
 #[derive(Clone, Copy, Debug, PartialEq, Eq)]
 pub struct PointerType {
-    /// The type of what it leads to.
+    /// The type to which it leads.
     pub underlying_type: TypeIndex,
     /// Its kind, mode, size and qualifiers.
     pub attributes: PointerAttributes,
@@ -248,7 +248,7 @@ pub struct ModifierType {
 /// An enumeration (`LF_ENUM`).
 #[derive(Clone, Copy, Debug, PartialEq, Eq)]
 pub struct EnumerationType<'t> {
-    /// How many values it names.
+    /// The number of values that it names.
     pub count: u16,
     /// Its properties, a forward reference among them.
     pub properties: TypeProperties,
@@ -280,7 +280,7 @@ pub struct ArrayType {
     pub element_type: TypeIndex,
     /// The type of an index.
     pub indexing_type: TypeIndex,
-    /// From one element to the next, in bytes, where it is not the element's size.
+    /// The stride: from one element to the next, in bytes, where it is not the element's size.
     pub stride: Option<u32>,
     /// Sizes in bytes, the last that of the whole array; there is one at least.
     pub dimensions: Vec<u32>,
@@ -290,7 +290,7 @@ pub struct ArrayType {
 /// A union (`LF_UNION`).
 #[derive(Clone, Copy, Debug, PartialEq, Eq)]
 pub struct UnionType<'t> {
-    /// How many members it has.
+    /// The number of its members.
     pub count: u16,
     /// Its properties, a forward reference among them.
     pub properties: TypeProperties,
@@ -309,7 +309,7 @@ pub struct UnionType<'t> {
 pub struct BitfieldType {
     /// The number's type.
     pub underlying_type: TypeIndex,
-    /// How many bits there are.
+    /// The number of bits.
     pub length: u8,
     /// The lowest bit, counted from 0.
     pub position: u8,

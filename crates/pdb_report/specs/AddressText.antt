@@ -13,7 +13,7 @@ abbrev pub number_text : Option ℕ → List ℕ
 number_text None = codes "??"
 number_text (Some n) = decimal n
 
--- a row: where it begins, and its length in bytes; or that there is none
+-- a row: its start, and its length in bytes; or that there is none
 abbrev pub row_text : Option FrameRow → List ℕ
 row_text None = codes " @??"
 row_text (Some row) =
@@ -26,14 +26,14 @@ frame_text f =
     ++ codes " at " ++ text_or f.file ++ codes ":" ++ number_text f.line
     ++ row_text f.row ++ 10 ∷ []
 
--- the lines of an answer: one for each frame, or the line for no answer, or for one that can't be
--- read
+-- the lines of an answer: one for each frame, or the line for no answer, or for an answer that
+-- can't be read
 unfoldable pub answer_text : Result (Option FunctionFrames) Fault → List ℕ
 answer_text (Ok None) = codes "  ??\n"
 answer_text (Ok (Some f)) = flat_map frame_text f.frames
 answer_text (Err e) = codes "  unreadable\n"
 
--- the lines of an address: its own, and those of its answer
+-- the lines of an address: its own, and the lines of its answer
 abbrev pub address_text : ℕ → Result (Option FunctionFrames) Fault → List ℕ
 address_text a answer = codes "0x" ++ eight_digits a ++ 10 ∷ answer_text answer
 
@@ -41,15 +41,15 @@ address_text a answer = codes "0x" ++ eight_digits a ++ 10 ∷ answer_text answe
 abbrev pub AddressAnswers : Type 0
 AddressAnswers = ℕ → Result (Option FunctionFrames) Fault
 
--- the lines of an address, by the answers
+-- the lines of an address, from the answers
 abbrev pub answered_text : AddressAnswers → ℕ → List ℕ
 answered_text answer a = address_text a (answer a)
 
--- what is written for a line that is an address, or isn't one, by the answers
+-- the text for a line that is an address, or isn't one, from the answers
 abbrev pub text_at : AddressAnswers → Option ℕ → List ℕ
 text_at answer None = codes "not an address\n"
 text_at answer (Some a) = answered_text answer a
 
--- what is written for a line of the input
+-- the text that is written for a line of the input
 unfoldable pub line_text : AddressAnswers → List ℕ → List ℕ
 line_text answer line = text_at answer (address_of line)

@@ -1,4 +1,4 @@
--- What a call adds to an output.
+-- The text that a call adds to an output.
 use Rattle.std.specs.Global.{Vec}
 use Rattle.std.specs.Prelude.{◌≡◌, ◌++◌, ℕ, List, OnOk, Result}
 

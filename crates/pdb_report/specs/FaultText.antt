@@ -1,4 +1,4 @@
--- What the fault of a run prints.
+-- The text of a run's fault.
 use Rattle.std.specs.Prelude.{List, ℕ, ◌++◌, codes}
 use Rattle.pdb_container.specs.ErrorText.{kind_text}
 use Rattle.pdb_loading.specs.LoadFaultText.{load_fault_text}
@@ -7,7 +7,7 @@ use Rattle.pdb_report.specs.declared.fault.RunFault.TheVariants.{Load, ReversedR
 use Rattle.pdb_report.specs.declared.fault.RunFault.TheVariants.{Write, InputTooLong}
 use Rattle.pdb_report.specs.declared.fault.RunFault.TheVariants.{File, OutOfMemory}
 
--- what the fault of a run prints: the loading fault, or its name and its kind
+-- the text of a run's fault: the loading fault's, or its name and its kind
 abbrev pub run_fault_text : RunFault → List ℕ
 run_fault_text (Load fault) = load_fault_text fault
 run_fault_text ReversedRange = codes "ReversedRange"

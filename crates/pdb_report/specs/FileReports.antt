@@ -1,4 +1,4 @@
--- Reports by a file that is read on demand.
+-- Reports from a file that is read on demand.
 pub use Rattle.pdb_addr2line.specs.declared.file_on_demand.FileOnDemand.{FileOnDemand}
 use Rattle.pdb_report.specs.declared.fault.RunFault.{RunFault}
 use Rattle.pdb_report.specs.declared.fault.RunFault.TheVariants.{Load, ReversedRange, Read}

@@ -1,4 +1,4 @@
--- What is written for lines, whatever the answers are that were found.
+-- The texts that are written for lines, whatever the answers are that were found.
 use Rattle.std.specs.Global.{Vec}
 use Rattle.std.specs.Prelude.{◌≡◌, ℕ, List, Option, None, Some, Result}
 use Rattle.pdb_addr2line.specs.FileFrames.{FindsHeldFrames}
@@ -8,7 +8,7 @@ use Rattle.pdb_report.specs.AddressText.{AddressAnswers}
 use Rattle.pdb_report.specs.Adds.{Adds}
 use Rattle.pdb_resolving.specs.declared.error.Error.{Error}
 
--- what is written for a line, by the answers
+-- the text that is written for a line, from the answers
 abbrev pub LineText : Type 0
 LineText = AddressAnswers → List ℕ → List ℕ
 
@@ -25,7 +25,7 @@ AddsFoundLine text address found result old new = (answers : AddressAnswers) (li
     → Some address ≡ address_of line → FindsHeldFrames found (answers address)
     → Adds result old new (text answers line)
 
--- What is written for a line that is no address was added.
+-- The text for a line that is no address was added.
 abbrev pub AddsOther : {A E : Type 0} → LineText → List ℕ → Result A E → Vec ℕ → Vec ℕ → Type 0
 AddsOther text line result old new = (answers : AddressAnswers)
     → None ≡ address_of line

@@ -22,15 +22,15 @@ use Rattle.pdb_report.specs.RunFaults.{OnLoad, OnMemory, OnRead, OnTooLong, OnWr
 use Rattle.pdb_report.specs.RunFaults.{IsOfFileFrames, IsOfFrames, UnlessLoad}
 use Rattle.pdb_symbols_modules.specs.Streams.{streams}
 
--- what a report on lines goes over: a file's bytes, the order in which its section contributions
--- have to stand, its loading fault, if it has one, and the answers for its addresses
+-- all that a report on lines goes over: a file's bytes, the order in which its section
+-- contributions have to stand, its loading fault, if it has one, and the answers for its addresses
 pub record FramesOf : Type 0 where
   pub bytes : List ℕ
   pub order : ContributionOrder
   pub fault : Option LoadingFault
   pub answer : AddressAnswers
 
--- that of a file, where section contributions have to stand in this order
+-- the same of a file, where section contributions have to stand in this order
 abbrev pub frames_with : ContributionOrder → List ℕ → FramesOf
 frames_with order bytes = record {
   bytes = bytes;
@@ -39,11 +39,11 @@ frames_with order bytes = record {
   answer = answer_with order (streams bytes);
 }
 
--- that of a file
+-- the same of a file
 abbrev pub frames_in : List ℕ → FramesOf
 frames_in bytes = frames_with InOrder bytes
 
--- that of a file that was loaded, and so has no loading fault
+-- the same of a file that was loaded, and so has no loading fault
 abbrev pub frames_loaded : FileBytes → FramesOf
 frames_loaded file = record {
   bytes = file.bytes;
@@ -52,11 +52,11 @@ frames_loaded file = record {
   answer = answer_with file.order (streams file.bytes);
 }
 
--- that of a file that is read on demand
+-- the same of a file that is read on demand
 abbrev pub frames_of : {F : Type 0} → FileOnDemand F → FramesOf
 frames_of source = frames_with source.order source.contents.numbers
 
--- the answers of a file by what was read of it
+-- the answers of a file from what was read of it
 abbrev pub answers_in : FileAnswers → AddressAnswers
 answers_in f = answer_with f.order (streams f.contents)
 
@@ -72,7 +72,7 @@ pub record ReportsFramesIn {R W T : Type 0} (text : LineText) (f : FramesOf) (li
       × ((reader' ≡ reader) × (writer' ≡ writer))))
   -- every other end but out of memory says that the file has no loading fault
   pub loaded : UnlessLoad result (f.fault ≡ None)
-  -- the faults are those of a report on lines
+  -- the faults are faults of a report on lines
   pub kind : IfErr result IsOfFrames
   -- out of memory is returned with both ends untouched, or where there is no loading fault
   pub memory : IfErr result (λ fault. OnMemory fault
@@ -84,7 +84,7 @@ pub record ReportsFramesIn {R W T : Type 0} (text : LineText) (f : FramesOf) (li
   pub quiet : OnOk result (IsQuiet reader reader' × IsQuiet writer writer')
   -- a failed read is one of this run, with its kind
   pub read_fails : IfErr result (λ fault. OnRead fault (λ k. CountsFailure reader reader' k))
-  -- so is a failed write
+  -- a failed write is one of this run, with its kind
   pub write_fails : IfErr result (λ fault. OnWrite fault (λ k. CountsFailure writer writer' k))
   -- the complete lines before a failed read are answered
   pub read_out : IfErr result (λ fault. OnRead fault (λ _. (taken : List ℕ)
@@ -124,7 +124,7 @@ pub record ReportsIfKnown {R W T : Type 0} (known : Type 0) (text : LineText) (f
   -- every other end but out of memory and a file that couldn't be read says that the file has no
   -- loading fault
   pub loaded : known → UnlessLoad result (f.fault ≡ None)
-  -- the faults are those of a report on lines, or the file couldn't be read
+  -- the faults are faults of a report on lines, or the file couldn't be read
   pub kind : IfErr result IsOfFileFrames
   -- out of memory, and a file that couldn't be read, are returned with both ends untouched, or
   -- where there is no loading fault
@@ -138,7 +138,7 @@ pub record ReportsIfKnown {R W T : Type 0} (known : Type 0) (text : LineText) (f
   pub quiet : OnOk result (IsQuiet reader reader' × IsQuiet writer writer')
   -- a failed read is one of this run, with its kind
   pub read_fails : IfErr result (λ fault. OnRead fault (λ k. CountsFailure reader reader' k))
-  -- so is a failed write
+  -- a failed write is one of this run, with its kind
   pub write_fails : IfErr result (λ fault. OnWrite fault (λ k. CountsFailure writer writer' k))
   -- the complete lines before a failed read are answered
   pub read_out : known → IfErr result (λ fault. OnRead fault (λ _. (taken : List ℕ)
@@ -152,9 +152,9 @@ pub record ReportsIfKnown {R W T : Type 0} (known : Type 0) (text : LineText) (f
   pub part : known → OnErr result (IfSome (remaining (inner_of reader)) (λ input.
       WritesFront contents writer writer' (report (text f.answer) input)))
 
--- The report on an input of up to 2^30 bytes by a file that is read on demand, with what is written
--- for a line, and what is left of the file: it is taken to have the same bytes, and what is said of
--- these holds if they agree with what was read.
+-- The report on an input of up to 2^30 bytes from a file that is read on demand, with the text that
+-- is written for a line, and what is left of the file: it is taken to have the same bytes, and what
+-- is said of these holds if they agree with what was read.
 pub record ReportsFileFramesIn {F R W : Type 0} (text : LineText) (f : FramesOf)
     (remaining : R → Option (List ℕ)) (written : W → Option (List ℕ))
     (reader reader' : Watched R) (writer writer' : Watched W) (result : FileRun F) : Type 0 where

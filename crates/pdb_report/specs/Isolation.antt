@@ -22,7 +22,7 @@ use Rattle.pdb_symbols_modules.specs.Streams.{Streams, streams}
 
 -- ---- related modules
 
--- the modules' entries in order, by what was read of stream 3
+-- the modules' entries in order, from what was read of stream 3
 abbrev pub entries_read : Result Dbi container.Fault → List Module
 entries_read (Err e) = []
 entries_read (Ok dbi) = (modules_of dbi.modules).items
@@ -66,7 +66,7 @@ pub record AreAlikeFor (m : ℕ) (a b : List ℕ) : Type 0 where
 
 -- ---- the law
 
--- the number of the module that holds an address, by what was loaded
+-- the number of the module that holds an address, from what was loaded
 abbrev pub holder_by : Result Loaded LoadingFault → ℕ → Option ℕ
 holder_by (Err e) a = None
 holder_by (Ok l) a =
@@ -77,7 +77,7 @@ unfoldable pub holder_with : ContributionOrder → Streams → ℕ → Option �
 holder_with order s = holder_by (loaded_with order (shared s))
 
 -- Two files answer an address alike, where section contributions have to stand in this order: by
--- frames, by function, and by what is written for each line that is the address.
+-- frames, by function, and by the text that is written for each line that is the address.
 pub record AnswersAlike (order : ContributionOrder) (a b : Streams) (x : ℕ) : Type 0 where
   pub frames : answer_with order a x ≡ answer_with order b x
   pub functions : function_with order a x ≡ function_with order b x
@@ -97,7 +97,7 @@ abbrev pub exchanged_if : {A : Type 0} → ℕ → Option ℕ → A → A → A
 exchanged_if m None own other = own
 exchanged_if m (Some k) own other = if k == m then other else own
 
--- the answers of a file, but those of another one at the addresses that module m holds in the first
+-- the answers of a file, with another one's at the addresses that module m holds in the first
 abbrev pub exchanged_with : ContributionOrder → ℕ → Streams → Streams → AddressAnswers
 exchanged_with order m a b x =
     exchanged_if m (holder_with order a x) (answer_with order a x) (answer_with order b x)

@@ -25,7 +25,7 @@ number_or_null (Some n) = decimal n
 unfoldable pub address_string : ℕ → List ℕ
 address_string a = codes "\"0x" ++ eight_digits a ++ codes "\""
 
--- a row: where it begins, and its length in bytes; or that there is none
+-- a row: its start, and its length in bytes; or that there is none
 abbrev pub row_or_null : Option FrameRow → List ℕ
 row_or_null None = codes "null"
 row_or_null (Some row) =
@@ -56,7 +56,7 @@ abbrev pub json_frames : List Frame → List ℕ
 json_frames [] = []
 json_frames (f ∷ fs) = json_frame f ++ flat_map next_frame fs
 
--- that an answer can't be read
+-- the member that says that an answer can't be read
 abbrev pub unreadable_member : List ℕ
 unreadable_member = codes "\"error\":\"unreadable\""
 
@@ -75,18 +75,18 @@ address_object a answer =
 abbrev pub answered_object : AddressAnswers → ℕ → List ℕ
 answered_object answer a = address_object a (json_answer (answer a))
 
--- what is written for a line that isn't an address: its first 4,352 bytes, where U+FFFD stands for
--- what isn't UTF-8
+-- the text for a line that isn't an address: its first 4,352 bytes, where U+FFFD stands for what
+-- isn't UTF-8
 unfoldable pub json_other : List ℕ → List ℕ
 json_other line =
     codes "{\"line\":" ++ string_text (utf8_lossy (take 4352 line))
     ++ codes ",\"error\":\"not an address\"}\n"
 
--- what is written for a line that is an address, or isn't one, by the answers
+-- the text for a line that is an address, or isn't one, from the answers
 abbrev pub json_at : AddressAnswers → List ℕ → Option ℕ → List ℕ
 json_at answer line None = json_other line
 json_at answer line (Some a) = answered_object answer a
 
--- what is written for a line of the input
+-- the text that is written for a line of the input
 unfoldable pub json_line : AddressAnswers → List ℕ → List ℕ
 json_line answer line = json_at answer line (address_of line)

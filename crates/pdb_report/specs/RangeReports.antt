@@ -30,16 +30,16 @@ use Rattle.pdb_symbols_modules.specs.Streams.{streams}
 
 -- ---- what is counted
 
--- what a report on a range goes over: a file's bytes; its loading fault, if it has one; which texts
--- are the report on the addresses from one on and before another; and which numbers of lookups are
--- at most one for each piece of them
+-- all that a report on a range goes over: a file's bytes; its loading fault, if it has one; which
+-- texts are the report on the addresses from one on and before another; and which numbers of
+-- lookups are at most one for each piece of them
 pub record SizesOf : Type 1 where
   pub bytes : List ℕ
   pub fault : Option LoadingFault
   pub is_report : ℕ → ℕ → List ℕ → Type 0
   pub is_within : ℕ → ℕ → ℕ → Type 0
 
--- that of a file with this loading fault, by what is counted at its places
+-- the same of a file with this loading fault, from what is counted at its places
 abbrev pub sizes_by : {A : Type 0} → CountedKind A → Option LoadingFault → FileBytes → SizesOf
 sizes_by kind fault file = record {
   bytes = file.bytes;
@@ -51,21 +51,21 @@ sizes_by kind fault file = record {
       file.order (streams file.bytes) start end lookups;
 }
 
--- that of a file, by what is counted
+-- the same of a file, from what is counted
 abbrev pub counted_with : {A : Type 0} → CountedKind A → ContributionOrder → List ℕ → SizesOf
 counted_with kind order bytes =
     sizes_by kind (load_fault_with order (streams bytes))
     record { bytes = bytes; order = order }
 
--- that of a file that was loaded, and so has no loading fault
+-- the same of a file that was loaded, and so has no loading fault
 abbrev pub counted_loaded : {A : Type 0} → CountedKind A → FileBytes → SizesOf
 counted_loaded kind file = sizes_by kind None file
 
--- that of a file that is read on demand
+-- the same of a file that is read on demand
 abbrev pub counted_of : {A F : Type 0} → CountedKind A → FileOnDemand F → SizesOf
 counted_of kind source = counted_with kind source.order source.contents.numbers
 
--- that of a file that was loaded and is read on demand
+-- the same of a file that was loaded and is read on demand
 abbrev pub counted_held : {A : Type 0} → CountedKind A → FileAnswers → SizesOf
 counted_held kind f = counted_loaded kind (file_of f)
 
@@ -76,7 +76,7 @@ by_function = record { is_report = IsReport; places = database_with }
 abbrev pub by_source_file : CountedKind FileAnswer
 by_source_file = record { is_report = IsFileReport; places = files_with }
 
--- that of a file by function, where section contributions have to stand in this order
+-- the same of a file by function, where section contributions have to stand in this order
 abbrev pub sizes_with : ContributionOrder → List ℕ → SizesOf
 sizes_with order bytes = counted_with by_function order bytes
 
@@ -98,7 +98,7 @@ by_file_of source = counted_of by_source_file source
 
 -- ---- a count
 
--- A text is a report on a range by a context that was asked so often before, and counting took at
+-- A text is a report on a range from a context that was asked so often before, and counting took at
 -- most one lookup for each piece, and at most one answer.
 pub record CountsPlaces {A : Type 0} (kind : CountedKind A) (m : Map) (db : Database A)
     (start end asked : ℕ) (counted : String Global × Tally) : Type 0 where
@@ -115,7 +115,7 @@ pub record IsCounted (f : SizesOf) (start end : ℕ) (counted : String Global ×
 
 -- ---- a run
 
--- The report on a range by a file in memory: how the run ends, by what the writer contains, where
+-- The report on a range from a file in memory: how the run ends, by what the writer contains, where
 -- that is known, and by the writer before and after the run.
 pub record CountsSizes {W : Type 0} (f : SizesOf) (start end : ℕ)
     (contents : W → Option (List ℕ)) (writer writer' : Watched W) (result : Result Tally RunFault)
@@ -128,7 +128,7 @@ pub record CountsSizes {W : Type 0} (f : SizesOf) (start end : ℕ)
   -- a reversed range is refused exactly where it is one, with nothing written
   pub reversed : IfErr result (λ fault. OnReversed fault ((end < start) × (writer' ≡ writer)))
   pub order : OnCounted result (start ≤ end)
-  -- the faults are those of a report on a range
+  -- the faults are faults of a report on a range
   pub kind : IfErr result IsOfSizes
   -- out of memory is returned with nothing written, or where there is no loading fault
   pub memory : IfErr result (λ fault. OnMemory fault ((f.fault ≡ None) ⊎ (writer' ≡ writer)))
@@ -161,7 +161,7 @@ pub record CountsIfKnown {W : Type 0} (known : Type 0) (f : SizesOf) (start end 
   -- a reversed range is refused exactly where it is one, with nothing written
   pub reversed : IfErr result (λ fault. OnReversed fault ((end < start) × (writer' ≡ writer)))
   pub order : OnCounted result (start ≤ end)
-  -- the faults are those of a report on a range, or the file couldn't be read
+  -- the faults are faults of a report on a range, or the file couldn't be read
   pub kind : IfErr result IsOfFileSizes
   -- out of memory, and a file that couldn't be read, are returned with nothing written, or where
   -- there is no loading fault
@@ -182,8 +182,9 @@ pub record CountsIfKnown {W : Type 0} (known : Type 0) (f : SizesOf) (start end 
   pub part : known → OnErr result ((writer' ≡ writer) ⊎ ((text : List ℕ)
       × f.is_report start end text × WritesFront contents writer writer' text))
 
--- The report on a range by a file that is read on demand, and what is left of the file: it is taken
--- to have the same bytes, and what is said of these holds where they agree with what was read.
+-- The report on a range from a file that is read on demand, and what is left of the file: it is
+-- taken to have the same bytes, and what is said of these holds where they agree with what was
+-- read.
 pub record CountsFileSizes {F W : Type 0} (f : SizesOf) (start end : ℕ)
     (written : W → Option (List ℕ)) (writer writer' : Watched W) (result : FileSizes F)
     : Type 0 where

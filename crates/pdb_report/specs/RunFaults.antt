@@ -13,18 +13,18 @@ use Rattle.pdb_report.specs.declared.fault.RunFault.TheVariants.{Load, ReversedR
 use Rattle.pdb_report.specs.declared.fault.RunFault.TheVariants.{Write, InputTooLong}
 use Rattle.pdb_report.specs.declared.fault.RunFault.TheVariants.{File, OutOfMemory}
 
--- how a run ends where loading has the fault
+-- the fault of a run where loading has the fault
 abbrev pub run_fault_of : LoadFault → RunFault
 run_fault_of faults.OutOfMemory = OutOfMemory
 run_fault_of fault = Load fault
 
--- how a run ends where a file that is read on demand isn't loaded
+-- the fault of a run where a file that is read on demand isn't loaded
 abbrev pub run_fault_of_file : FileFault → RunFault
 run_fault_of_file (files.Load fault) = run_fault_of fault
 run_fault_of_file (files.File kinds.OutOfMemory) = OutOfMemory
 run_fault_of_file (files.File kind) = File kind
 
--- how a run ends where answering its input does
+-- the fault of a run where answering its input has the fault
 abbrev pub run_fault_of_input : InputFault → RunFault
 run_fault_of_input (inputs.Read kind) = Read kind
 run_fault_of_input (inputs.Write kind) = Write kind

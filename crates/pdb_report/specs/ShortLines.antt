@@ -1,4 +1,4 @@
--- A line's first bytes are enough for what is written for it.
+-- The first bytes of a line are enough for the line's text.
 use Rattle.std.proofs.Common.{◌≡◌, ◌∙◌, ℕ, List, ◌++◌, take, refl, sym, ap, lit≤, codes}
 use Rattle.std.specs.Prelude.{Option, None, Some}
 use Rattle.std.specs.Str.Lossy.{utf8_lossy}
@@ -27,7 +27,7 @@ module _ (line : List ℕ) where
   other_start = ap (λ (l : List ℕ). codes "{\"line\":" ++ string_text (utf8_lossy l)
       ++ codes ",\"error\":\"not an address\"}\n") (take-take 4352 4352 line (lit≤ tt))
 
-  -- what is written for an address, or for another line, by its start
+  -- the text for an address, or for another line, from its start
   at_start : (answers : AddressAnswers) (address : Option ℕ)
       → json_at answers (take 4352 line) address ≡ json_at answers line address
   at_start answers None = other_start

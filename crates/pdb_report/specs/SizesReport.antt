@@ -1,4 +1,4 @@
--- Reports on a range: how many of its addresses each function has.
+-- Reports on a range: the number of its addresses that each function has.
 use Rattle.std.specs.Prelude.{◌≡◌, ℕ, ◌≤◌, List, Option, Some, String, string_bytes}
 use Rattle.std.specs.Prelude.{option_and_then}
 use Rattle.std.specs.declared.cmp.Ordering.{Ordering}
@@ -15,14 +15,14 @@ use Rattle.pdb_owners.specs.Table.{IsTable, count_in}
 use Rattle.pdb_symbols_modules.specs.Streams.{Streams}
 use Rattle.pdb_report.specs.Answer.{map_with, database_with}
 
--- What a report on a range is of: which texts are the report on the addresses from one on and
--- before another, by what places have; and what a file's places have, by the order in which section
--- contributions have to stand.
+-- A kind of report on a range: which texts are the report on the addresses from one on and before
+-- another, from the answers at places; and the answers at a file's places, with the order in which
+-- section contributions have to stand.
 pub record CountedKind (A : Type 0) : Type 1 where
   pub is_report : Map → Database A → ℕ → ℕ → List ℕ → Type 0
   pub places : ContributionOrder → Streams → Database A
 
--- a table has how many addresses of a range have each answer; and how many have none
+-- a table has for each answer the number of a range's addresses; and the number that have none
 pub record AreSizes {A : Type 0} (cmp : A → A → Ordering) (m : Map) (db : Database A)
     (start end : ℕ)
     (table : List (A × ℕ)) (none : ℕ) : Type 0 where
@@ -30,19 +30,19 @@ pub record AreSizes {A : Type 0} (cmp : A → A → Ordering) (m : Map) (db : Da
   pub each : (a : A) → count_in cmp table a ≡ count cmp m db start end a
   pub none_is : none ≡ count_of_none m db start end
 
--- A key stands for what a place has, and there is none where it has nothing.
+-- A key stands for the answer of a place, and there is none where the place has nothing.
 abbrev pub IsKeyAt : {K A : Type 0} → Keyed K A → PdbInternalSectionOffset → Option K → Type 0
 IsKeyAt keyed place key =
     option_and_then keyed.answer_of key ≡ keyed.places.answer (place_of place)
 
--- A text is the report of a kind on each range of which these are the counts, and that of nothing.
+-- A text is the report of a kind on each range with these counts, and this count of nothing.
 abbrev pub ReportsCounts : {A Z : Type 0} → (A → A → Ordering) → CountedKind A → List (A × ℕ) → ℕ
     → String Z → Type 0
 ReportsCounts {A} cmp kind table none text = (m : Map) (db : Database A) (start end : ℕ)
     → AreSizes cmp m db start end table none → kind.is_report m db start end (string_bytes text)
 
--- A text is a report of a kind on the addresses from one on and before another, by what places of
--- a file have whose section contributions have to stand in this order.
+-- A text is a report of a kind on the addresses from one on and before another, from the answers at
+-- places of a file whose section contributions have to stand in this order.
 pub record IsReportOn {A : Type 0} (is_report : Map → Database A → ℕ → ℕ → List ℕ → Type 0)
     (db : Database A) (order : ContributionOrder) (s : Streams) (start end : ℕ) (text : List ℕ)
     : Type 0 where
@@ -50,15 +50,15 @@ pub record IsReportOn {A : Type 0} (is_report : Map → Database A → ℕ → �
   pub map_is : map_with order s ≡ Some map
   pub report : is_report map db start end text
 
--- So many lookups are at most one for each piece of the range.
+-- A number of lookups is at most one for each piece of the range.
 pub record AreWithinPieces {A : Type 0} (db : Database A) (order : ContributionOrder) (s : Streams)
     (start end lookups : ℕ) : Type 0 where
   pub map : Map
   pub map_is : map_with order s ≡ Some map
   pub few : lookups ≤ pieces map db start end
 
--- The report by function: a line for each function that some of the addresses have, with how many
--- have it, and then how many have none.
+-- The report by function: a line for each function that some of the addresses have, with the number
+-- of these, and then the number of addresses that have none.
 abbrev pub IsSizesReportWith : ContributionOrder → Streams → ℕ → ℕ → List ℕ → Type 0
 IsSizesReportWith order s start end text =
     IsReportOn IsReport (database_with order s) order s start end text
@@ -66,7 +66,7 @@ IsSizesReportWith order s start end text =
 abbrev pub IsSizesReport : Streams → ℕ → ℕ → List ℕ → Type 0
 IsSizesReport s start end text = IsSizesReportWith InOrder s start end text
 
--- So many lookups are at most one for each piece of the range by function.
+-- A number of lookups is at most one for each piece of the range by function.
 abbrev pub IsWithinPiecesWith : ContributionOrder → Streams → ℕ → ℕ → ℕ → Type 0
 IsWithinPiecesWith order s start end lookups =
     AreWithinPieces (database_with order s) order s start end lookups

@@ -1,4 +1,4 @@
--- What is reported of a fault.
+-- The report of a fault.
 use Rattle.std.specs.Prelude.{◌⊎◌, ℕ, List, [], ◌∷◌, ◌++◌, Option, codes}
 use Rattle.std.specs.List.{flat_map}
 use Rattle.std.specs.declared.io.ErrorKind.{ErrorKind}
@@ -23,7 +23,7 @@ Tells contents failures has_failed old new line =
     PutsAll contents failures old new line
     ⊎ ((kind : ErrorKind) × PutsFront contents failures has_failed old new kind line)
 
--- The same of the line on a fault.
+-- The same for the line on a fault.
 abbrev pub TellsFault : {T : Type 0} → (T → Option (List ℕ)) → (T → Count)
     → (T → ErrorKind → Type 0) → T → T → RunFault → Type 0
 TellsFault contents failures has_failed old new fault =

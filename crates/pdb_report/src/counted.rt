@@ -1,4 +1,4 @@
-//! What reports of sizes count.
+//! The answers that reports of sizes count.
 
 ghost use Rattle.std.specs.Prelude.{◌≡◌, ◌+◌, ◌-◌, ◌^◌, ◌≤◌, List, min, IfOk, OnOk};
 ghost use Rattle.pdb_addr2line.specs.Context.{Context as ContextValue};
@@ -17,17 +17,17 @@ use pdb_owners::{
 use std::alloc::{AllocError, Global};
 use std::marker::PhantomData;
 
-/// What a report of sizes counts at addresses, with the text of its counts.
+/// An answer that a report of sizes counts at addresses, with the text of its counts.
 pub(crate) trait Counted: Countable {
-    /// What tells answers apart run by run; each stands for one answer, or for none.
+    /// The key that tells answers apart run by run; each key stands for one answer, or for none.
     type Key: Countable;
 
     ghost keyed: { ContextValue (List KeptInfo) → Keyed Self.Key Self };
 
     ghost kind: { CountedKind Self };
 
-    /// Returns a key of the answer at a place, and over how many places from it on there is no
-    /// bound, `limit` at most. It is counted as a lookup.
+    /// Returns a key of the answer at a place, and the number of places from it on without a bound,
+    /// `limit` at most. It is counted as a lookup.
     fn find_run(
         alloc: Global,
         context: &mut FileContext<'_>,
@@ -102,7 +102,7 @@ impl Counted for Function {
     }
 }
 
-/// Files, by their kind, and those that are known in the order of their texts' bytes.
+/// Files, by their kind, and known files in the order of their texts' bytes.
 impl Counted for CountedFile {
     ghost use Rattle.pdb_report.specs.Answer.{files_keyed_in};
     ghost use Rattle.pdb_report.specs.RangeReports.{by_source_file};
@@ -143,7 +143,7 @@ impl Counted for CountedFile {
     }
 }
 
-/// A context that is asked for runs of what is counted, and how often an answer was made of a key.
+/// A context that is asked for runs of answers to count, and how often an answer was made of a key.
 #[derive(Drop)]
 pub(crate) struct ContextRuns<'a, A: Counted> {
     context: FileContext<'a>,
@@ -152,7 +152,7 @@ pub(crate) struct ContextRuns<'a, A: Counted> {
 }
 
 impl<'a, A: Counted> ContextRuns<'a, A> {
-    /// Runs by a context.
+    /// Runs over a context.
     pub(crate) fn new(context: FileContext<'a>) -> ContextRuns<'a, A>
         ensures context { result.context ≡ context.entry }
         ensures answered { result.answered ≡ 0 }
@@ -164,14 +164,14 @@ impl<'a, A: Counted> ContextRuns<'a, A> {
         }
     }
 
-    /// Returns how many places were looked up.
+    /// Returns the number of places that were looked up.
     pub(crate) fn lookups(&self) -> u64
         ensures { result ≡ self.now.context.lookups }
     {
         self.context.lookups()
     }
 
-    /// Returns how often an answer was made of a key.
+    /// Returns the number of times that an answer was made of a key.
     pub(crate) fn answered(&self) -> u64
         ensures { result ≡ self.now.answered }
     {

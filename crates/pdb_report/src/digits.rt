@@ -46,7 +46,7 @@ fn address_line(address: u32) -> [u8; 11]
     line
 }
 
-/// Returns where a row begins, with what stands before and after it.
+/// Returns the start of a row, with what stands before and after it.
 fn row_start(start: u32) -> [u8; 13]
     ensures { result ≡ codes " @0x" ++ eight_digits start ++ codes "+" }
 {
@@ -75,7 +75,7 @@ pub fn append_address_line(output: &mut Vec<u8>, address: u32) -> Result<(), All
     output.extend_from_slice(&address_line(address))
 }
 
-/// Appends where a row begins, with what stands before and after it.
+/// Appends the start of a row, with what stands before and after it.
 ///
 /// # Errors
 /// `AllocError` when memory runs out.

@@ -1,4 +1,4 @@
-//! Why a run ends early.
+//! The fault with which a run ends early.
 
 ghost use Rattle.std.specs.Prelude.{◌≡◌};
 ghost use Rattle.pdb_container.specs.PrintedFault.{printed_text};
@@ -10,19 +10,19 @@ use pdb_loading::{FileFault, LoadFault};
 use std::fmt;
 use std::io::ErrorKind;
 
-/// Why a run ended early. `Load` prints what it holds, any other as its name and, in parentheses,
-/// its values.
+/// The fault with which a run ended early. `Load` prints the fault that it holds, any other its
+/// name and, in parentheses, its values.
 #[derive(Debug, Drop, PartialEq)]
 pub enum RunFault {
-    /// The program database wasn't loaded, for that cause, which is never out of memory.
+    /// The program database wasn't loaded, for this cause, which is never out of memory.
     Load(LoadFault),
     /// The range's start lies above its end.
     ReversedRange,
-    /// A read failed with that kind.
+    /// A read failed with this kind.
     Read(ErrorKind),
-    /// A write failed with that kind.
+    /// A write failed with this kind.
     Write(ErrorKind),
-    /// The file, which is read on demand, couldn't be read, with that kind.
+    /// The file, which is read on demand, couldn't be read: reading it failed with this kind.
     File(ErrorKind),
     /// The input has more bytes than a run reads.
     InputTooLong,
@@ -73,7 +73,7 @@ impl From<InputFault> for RunFault {
 }
 
 impl RunFault {
-    /// What the fault prints.
+    /// The text that the fault prints.
     pub fn printed(&self) -> PrintedFault<'_>
         ensures { printed_text result ≡ run_fault_text self.now }
     {

@@ -1,4 +1,4 @@
-//! The report on an input, by a file that is read on demand.
+//! The report on an input, from a file that is read on demand.
 
 ghost use Rattle.std.specs.Prelude.{◌≡◌, ◌^◌, true};
 ghost use Rattle.pdb_addr2line.specs.FileAnswers.{IsKnown, file_of};
@@ -23,8 +23,8 @@ use std::marker::{Model, PhantomData};
 use std::os::unix::fs::FileExt;
 
 /// A file that is asked for the answers to lines, whose names are made with the default flags; room
-/// for a text; whether nothing was missing when the file was last to be read; how reading it failed,
-/// if it did; and the form of texts.
+/// for a text; whether nothing was missing when the file was last to be read; how reading it
+/// failed, if it did; and the form of texts.
 #[derive(Drop)]
 struct FileLines<'a, F: Drop, L> {
     symbolizer: FileSymbolizer<'a, F>,
@@ -45,7 +45,7 @@ impl<'a, F: Drop, L> Model for FileLines<'a, F, L> {
     ghost invariant = { λ lines. lines.symbolizer.flags ≡ 23 };
 }
 
-/// Appends what is written in a form for a line by what was read of a file.
+/// Appends the text in a form for a line, from what was read of a file.
 ///
 /// # Errors
 /// `AllocError` where memory runs out, or where something has to be read first.
@@ -163,11 +163,11 @@ impl<'a, F: FileExt + Drop, L: LineForm> Answers for FileLines<'a, F, L> {
     }
 }
 
-/// Answers the lines of the reader by a file that was loaded and is read on demand.
+/// Answers the lines of the reader from a file that was loaded and is read on demand.
 ///
 /// # Errors
-/// `Read` and `Write` where that end failed in this call; `File` where the file couldn't be read;
-/// `InputTooLong` past 2^30 bytes of input; `OutOfMemory`.
+/// `Read` and `Write` where reader or writer failed in this call; `File` where the file couldn't be
+/// read; `InputTooLong` past 2^30 bytes of input; `OutOfMemory`.
 fn answer_file_lines<L: LineForm, F: FileExt + Drop, R: Read, W: Write>(
     alloc: Global,
     lines: &mut FileLines<'_, F, L>,
@@ -186,8 +186,8 @@ fn answer_file_lines<L: LineForm, F: FileExt + Drop, R: Read, W: Write>(
     }
 }
 
-/// Why a run ends that was refused for lack of memory or of the file, of which reading failed with
-/// that kind, if it did.
+/// The fault of a run that was refused for lack of memory or of the file, with the kind with which
+/// reading the file failed, if it did.
 pub(crate) fn memory_fault(failed: Option<ErrorKind>) -> RunFault
     ensures { OnMemoryOrFile result }
 {
@@ -197,17 +197,17 @@ pub(crate) fn memory_fault(failed: Option<ErrorKind>) -> RunFault
     }
 }
 
-/// How a run ended, over a file that is read on demand, and the file.
+/// The outcome of a run over a file that is read on demand, and the file.
 #[derive(Drop)]
 pub struct FileRun<'a, F: Drop> {
-    /// How it ended.
+    /// The outcome of the run.
     pub outcome: Result<(), RunFault>,
     /// The file, with what was read of it.
     pub source: FileOnDemand<'a, F>,
 }
 
-/// Answers the lines of the reader by a file that was loaded and is read on demand, and lets go of
-/// all but the file.
+/// Answers the lines of the reader from a file that was loaded and is read on demand, and lets go
+/// of all but the file.
 ///
 /// # Errors
 /// As [`answer_file_lines`].
@@ -244,9 +244,9 @@ fn answer_file<'a, L: LineForm, F: FileExt + Drop, R: Read, W: Write>(
     FileRun { outcome, source }
 }
 
-/// Writes the report on the lines of the reader by a file that is read on demand: for each line the
-/// answer for its address, and nothing else. What is said of the file's bytes holds of those that
-/// `source` takes the file to have, where they agree with everything that was read.
+/// Writes the report on the lines of the reader from a file that is read on demand: for each line
+/// the answer for its address, and nothing else. What is said of the file's bytes holds of those
+/// that `source` takes the file to have, where they agree with everything that was read.
 ///
 /// # Errors
 /// As [`run_frames`](crate::run_frames); `File` where the file couldn't be read, and then a prefix
@@ -260,9 +260,9 @@ pub fn run_file_frames<'a, F: FileExt + Drop, R: Read, W: Write>(
 ) -> FileRun<'a, F>
     ensures report { ReportsFileFrames (frames_of source.entry) R.remaining W.contents
         reader.old reader.new writer.old writer.new result }
-    // The file's answers are those of every other file that is alike for the module that holds the
-    // address. At `Ok` what is out is also the report in which the lines of one module's addresses
-    // are such a file's.
+    // The file's answers are the answers of every other file that is alike for the module that
+    // holds the address. At `Ok` what is out is also the report in which the lines of one module's
+    // addresses are such a file's.
     ensures isolated { IsIsolated source.entry.contents.numbers }
     ensures exchanged { ExchangesFrames (frames_of source.entry) R.remaining W.contents
         reader.old writer.old writer.new result }
@@ -273,7 +273,7 @@ pub fn run_file_frames<'a, F: FileExt + Drop, R: Read, W: Write>(
 /// As [`run_file_frames`], in any form, such as [`JsonLines`](crate::JsonLines).
 ///
 /// # Errors
-/// As those of [`run_file_frames`].
+/// The errors of [`run_file_frames`].
 pub fn run_file_frames_in<'a, L: LineForm, F: FileExt + Drop, R: Read, W: Write>(
     alloc: Global,
     source: FileOnDemand<'a, F>,

@@ -1,4 +1,4 @@
-//! Reports on a range of addresses, by a file that is read on demand.
+//! Reports on a range of addresses, from a file that is read on demand.
 
 ghost use Rattle.std.specs.Prelude.{◌≡◌, ◌≤◌, IfErr, IfOk};
 ghost use Rattle.pdb_addr2line.specs.FileAnswers.{IsKnown, IsUnasked};
@@ -18,7 +18,7 @@ use std::alloc::{AllocError, Global};
 use std::io::Write;
 use std::os::unix::fs::FileExt;
 
-/// The text of the report on a range by what was read of a file, and what counting took. The
+/// The text of the report on a range from what was read of a file, and the tally of counting. The
 /// context is let go.
 ///
 /// # Errors
@@ -47,8 +47,8 @@ fn count_held<A: Counted, F: Drop>(
     count_text::<A>(alloc, symbolizer.address_map(), context, start, end)
 }
 
-/// The text of the report on a range by a file that was loaded and is read on demand, and what
-/// counting took the last time.
+/// The text of the report on a range from a file that was loaded and is read on demand, and the
+/// tally of the last count.
 ///
 /// # Errors
 /// `File` where the file couldn't be read; `OutOfMemory`.
@@ -88,17 +88,17 @@ fn count_file<A: Counted, F: FileExt + Drop>(
     Err(RunFault::OutOfMemory)
 }
 
-/// How a run on a range ended, over a file that is read on demand, and the file.
+/// The outcome of a run on a range over a file that is read on demand, and the file.
 #[derive(Drop)]
 pub struct FileSizes<'a, F: Drop> {
-    /// How it ended.
+    /// The outcome of the run.
     pub outcome: Result<Tally, RunFault>,
     /// The file, with what was read of it.
     pub source: FileOnDemand<'a, F>,
 }
 
-/// Writes a report on a range by a file that was loaded and is read on demand, unless the range is
-/// reversed.
+/// Writes a report on a range from a file that was loaded and is read on demand, unless the range
+/// is reversed.
 ///
 /// # Errors
 /// `ReversedRange`; `Write` where a write failed; `File` where the file couldn't be read;
@@ -131,7 +131,7 @@ fn write_file_report<A: Counted, F: FileExt + Drop, W: Write>(
     }
 }
 
-/// Writes a report on a range by a file that is read on demand.
+/// Writes a report on a range from a file that is read on demand.
 ///
 /// # Errors
 /// As [`run_file_sizes`].
@@ -159,8 +159,8 @@ fn run_file_report<'a, A: Counted, F: FileExt + Drop, W: Write>(
     }
 }
 
-/// Writes how many of the addresses from `start` on and before `end` each function has in a file
-/// that is read on demand, as [`run_sizes`](crate::run_sizes) does. What is said of the file's
+/// Writes the number of the addresses from `start` on and before `end` that each function has in a
+/// file that is read on demand, as [`run_sizes`](crate::run_sizes) does. What is said of the file's
 /// bytes holds of those that `source` takes the file to have, where they agree with everything that
 /// was read.
 ///
@@ -179,8 +179,8 @@ pub fn run_file_sizes<'a, F: FileExt + Drop, W: Write>(
     run_file_report::<Function, F, W>(alloc, source, start, end, writer)
 }
 
-/// Writes how many of the addresses from `start` on and before `end` each source file has in a file
-/// that is read on demand, as [`run_sizes_by_file`](crate::run_sizes_by_file) does.
+/// Writes the number of the addresses from `start` on and before `end` that each source file has in
+/// a file that is read on demand, as [`run_sizes_by_file`](crate::run_sizes_by_file) does.
 ///
 /// # Errors
 /// As [`run_file_sizes`].

@@ -7,9 +7,9 @@ use crate::fault::RunFault;
 use crate::told::tell;
 use pdb_engine::ErrorOutput;
 
-/// The exit status of a run: 0 if it succeeded, and else 1, once its fault was written to `errors`
-/// in one line, `fault: ` and what the fault prints. A write to `errors` that fails is ignored, and
-/// ends the line. It takes no memory.
+/// The exit status of a run: 0 if it succeeded, and otherwise 1, once its fault was written to
+/// `errors` in one line, `fault: ` and the text that the fault prints. A write to `errors` that
+/// fails is ignored, and ends the line. It takes no memory.
 #[tactic(auto, using(crate::proofs::Pieces::told_either))]
 pub fn finish_run<W: ErrorOutput>(outcome: Result<(), RunFault>, errors: &mut W) -> u8
     ensures ok { IsOk outcome → (result ≡ 0) × (errors.new ≡ errors.old) }

@@ -12,16 +12,16 @@ use pdb_addr2line::{Error, SharedFunctionFrames};
 use pdb_engine::{AddressStart, LineStart, LongStart};
 use std::alloc::{AllocError, Global};
 
-/// A form of reports on lines: what is written for an address, by what was found there, and for any
+/// A form of reports on lines: the text for an address, from what was found there, and for any
 /// other line.
 pub trait LineForm {
-    /// The start of a line, which decides what is written for it.
+    /// The start of a line, which decides the line's text.
     type Start: LineStart;
 
-    // what is written for a line, by the answers
+    // the text that is written for a line, from the answers
     ghost text: { LineText };
 
-    /// Appends what is written for a line that is an address, at which this was found.
+    /// Appends the text for a line that is an address, at which this was found.
     ///
     /// # Errors
     /// `AllocError` when memory runs out; a part may be appended then.
@@ -32,14 +32,14 @@ pub trait LineForm {
     ) -> Result<(), AllocError>
         ensures { AddsFoundLine text address found.entry result output.old output.new };
 
-    /// Appends what is written for a line that isn't an address.
+    /// Appends the text for a line that isn't an address.
     ///
     /// # Errors
     /// `AllocError` when memory runs out; a part may be appended then.
     fn append_other(alloc: Global, line: &[u8], output: &mut Vec<u8>) -> Result<(), AllocError>
         ensures { AddsOther text line.now result output.old output.new };
 
-    // the start of a line decides what is written for it
+    // the start of a line decides the line's text
     ghost is_short: { (answers : AddressAnswers) (line : List ℕ)
         → text answers (take Self.Start.limit line) ≡ text answers line };
 }

@@ -18,9 +18,9 @@ ghost use Rattle.pdb_symbols_modules.specs.Streams.{Streams, streams};
 
 use pdb_owners::laws as functions;
 
-/// What was read of a file has the streams that the whole file has, each with the same bytes or
-/// fault; so it has the same loading fault or none, and the same answers and reports. What wasn't
-/// read is part of no stream.
+/// The bytes that were read of a file have the streams that the whole file has, each with the same
+/// bytes or fault; so they have the same loading fault or none, and the same answers and reports.
+/// Bytes that weren't read are part of no stream.
 pub fn files_that_were_read()
     ensures alike { (order : Order) (file bytes : List ℕ) → IsRead file bytes
         → LoadAlike order bytes file }

@@ -1,10 +1,10 @@
-//! Reports by a program database: it is loaded, and the answer to each line of an input is written,
-//! or how many addresses of a range each function has; the texts of answers, and why a run ends
-//! early.
+//! Reports from a program database: it is loaded, and the answer to each line of an input is
+//! written, or the number of addresses of a range that each function has; the texts of answers, and
+//! the fault with which a run ends early.
 //!
-//! How much is read, cached and made ahead may change, and how a text is put together, as long as a
-//! fault takes no memory. A report's bytes, its faults, and what is out at each of them may not:
-//! scripts and the laws of whole files stand on them.
+//! The amounts that are read, cached and made ahead may change, and how a text is put together, as
+//! long as a fault takes no memory. A report's bytes, its faults, and what is out at each of them
+//! may not: scripts and the laws of whole files stand on them.
 //!
 //! A [`Symbolizer`] is a file that was loaded, and a context of it is asked:
 //!
@@ -40,7 +40,7 @@
 //! | report how a run ended, and with which status | [`finish_run`] |
 //! | see what is proved of whole files | [`laws`] |
 //!
-//! What a context answers besides, and the formatter of types, is in `pdb_addr2line`.
+//! The further answers of a context, and the formatter of types, are in `pdb_addr2line`.
 //!
 //! [`find_frames`]: FileSymbolizer::find_frames
 #![tactic(auto)]

@@ -1,4 +1,4 @@
-//! What is written for a line of the input, by a context.
+//! The text that is written for a line of the input, from a context.
 
 ghost use Rattle.std.specs.Prelude.{◌≡◌, [], OnErr};
 ghost use Rattle.pdb_addr2line.specs.Context.{lasting};
@@ -12,12 +12,12 @@ use std::alloc::{AllocError, Global};
 use std::marker::PhantomData;
 use std::mem::replace;
 
-/// From how many bytes on a text is moved in place of being copied: 1 MB. So a long answer is held
-/// once, and twice where it is made ahead, as docs/COSTS.md counts one of 60 MB; the room for short
-/// ones is used again.
+/// The number of bytes from which on a text is moved in place of being copied: 1 MB. So a long
+/// answer is held once, and twice where it is made ahead, as docs/COSTS.md counts one of 60 MB; the
+/// room for short ones is used again.
 const LONG_TEXT: usize = 1_048_576;
 
-/// Appends what is written in a form for a line of the input.
+/// Appends the text in a form for a line of the input.
 #[tactic(auto, using(pdb_addr2line::proofs::FileSteps::told_found))]
 pub(crate) fn append_line<L: LineForm, P: ModuleProvider>(
     alloc: Global,

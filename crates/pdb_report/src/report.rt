@@ -19,16 +19,16 @@ use std::mem::forget;
 /// reader, also on one that never does. docs/COSTS.md has what an address costs.
 pub(crate) const INPUT_LIMIT: u64 = 1 << 30;
 
-/// What becomes of the memory that a run's context holds, once the run ends.
+/// The fate of the memory that a run's context holds, once the run ends.
 #[derive(Clone, Copy, Debug, PartialEq, Eq)]
 pub enum AtEnd {
-    /// It is given back, one piece after another.
+    /// The memory is given back, one piece after another.
     GiveBack,
-    /// It is left to the process, which ends and gives back all of it at once.
+    /// The memory is left to the process, which ends and gives back all of it at once.
     LeaveToProcess,
 }
 
-/// Gives back what a value holds, or leaves it to the process.
+/// Gives back the memory that a value holds, or leaves it to the process.
 pub(crate) fn let_go<T: Drop>(value: T, at_end: AtEnd) {
     match at_end {
         AtEnd::GiveBack => drop(value),
@@ -36,13 +36,13 @@ pub(crate) fn let_go<T: Drop>(value: T, at_end: AtEnd) {
     }
 }
 
-/// Answers the lines of the reader by a file that was loaded, where the input may have at most
-/// `limit` bytes: what [`run_frames`] calls, with 2^30 bytes, once it has loaded the file. It is
+/// Answers the lines of the reader from a file that was loaded, where the input may have at most
+/// `limit` bytes: [`run_frames`] calls it, with 2^30 bytes, once it has loaded the file. It is
 /// public for tests with shorter limits.
 ///
 /// # Errors
-/// `Read` and `Write` where that end failed in this call; `InputTooLong` past `limit` bytes of
-/// input; `OutOfMemory`.
+/// `Read` and `Write` where reader or writer failed in this call; `InputTooLong` past `limit` bytes
+/// of input; `OutOfMemory`.
 pub fn answer_lines<R: Read, W: Write>(
     alloc: Global,
     symbolizer: &Symbolizer,
@@ -60,7 +60,7 @@ pub fn answer_lines<R: Read, W: Write>(
 /// As [`answer_lines`], in any form.
 ///
 /// # Errors
-/// As those of [`answer_lines`].
+/// The errors of [`answer_lines`].
 fn answer_lines_in<L: LineForm, R: Read, W: Write>(
     alloc: Global,
     symbolizer: &Symbolizer,
@@ -95,7 +95,7 @@ fn answer_lines_in<L: LineForm, R: Read, W: Write>(
 ///
 /// # Errors
 /// `Load` where the file has a loading fault, and then nothing was read and nothing written; `Read`
-/// and `Write` where that end failed in this call; `InputTooLong` past 2^30 bytes of input;
+/// and `Write` where reader or writer failed in this call; `InputTooLong` past 2^30 bytes of input;
 /// `OutOfMemory`.
 pub fn run_frames<R: Read, W: Write>(
     alloc: Global,
@@ -109,11 +109,11 @@ pub fn run_frames<R: Read, W: Write>(
     run_frames_ending(alloc, bytes, reader, writer, AtEnd::GiveBack)
 }
 
-/// As [`run_frames`], with a say in what becomes of the memory that the run's context holds: a
-/// process that ends after the run can be left to give it back.
+/// As [`run_frames`], with a say in the fate of the memory that the run's context holds: a process
+/// that ends after the run can be left to give it back.
 ///
 /// # Errors
-/// As those of [`run_frames`].
+/// The errors of [`run_frames`].
 pub fn run_frames_ending<R: Read, W: Write>(
     alloc: Global,
     bytes: Vec<u8>,
@@ -137,7 +137,7 @@ pub fn run_frames_ending<R: Read, W: Write>(
 /// As [`run_frames_ending`], where section contributions have to stand in that order.
 ///
 /// # Errors
-/// As those of [`run_frames`]. In any order no `Load` is for the order of section contributions.
+/// The errors of [`run_frames`]. In any order no `Load` is for the order of section contributions.
 pub fn run_frames_with_order<R: Read, W: Write>(
     alloc: Global,
     bytes: Vec<u8>,
@@ -155,7 +155,7 @@ pub fn run_frames_with_order<R: Read, W: Write>(
 /// As [`run_frames_with_order`], in any form, such as [`JsonLines`](crate::JsonLines).
 ///
 /// # Errors
-/// As those of [`run_frames_with_order`].
+/// The errors of [`run_frames_with_order`].
 #[tactic(auto, using(crate::proofs::FrameSteps::of_loaded))]
 pub fn run_frames_in<L: LineForm, R: Read, W: Write>(
     alloc: Global,

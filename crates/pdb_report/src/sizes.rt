@@ -1,4 +1,4 @@
-//! Reports on a range of addresses: how many of them each function has, or each source file.
+//! Reports on a range of addresses: the number of them that each function has, or each source file.
 
 ghost use Rattle.std.specs.Prelude.{◌≤◌, IfOk};
 ghost use Rattle.pdb_addresses.specs.Addresses.{IsOrdered};
@@ -16,16 +16,16 @@ use pdb_owners::{CountedFile, count_runs};
 use std::alloc::{AllocError, Global};
 use std::io::Write;
 
-/// What a report of sizes took.
+/// The tally of a report of sizes.
 #[derive(Debug, Drop, PartialEq)]
 pub struct Tally {
-    /// How many places were looked up.
+    /// The number of places that were looked up.
     pub lookups: u64,
-    /// How often an answer was made of a key that lookups found: once for each key.
+    /// The number of times that an answer was made of a key that lookups found: once for each key.
     pub answered: u64,
 }
 
-/// The text of the report on a range by a context, and what counting took.
+/// The text of the report on a range from a context, and the tally of counting.
 ///
 /// # Errors
 /// `AllocError` when memory runs out.
@@ -51,7 +51,7 @@ pub(crate) fn count_text<A: Counted>(
     Ok((text, tally))
 }
 
-/// The text of the report on a range by a file that was loaded, and what counting took.
+/// The text of the report on a range from a file that was loaded, and the tally of counting.
 ///
 /// # Errors
 /// `AllocError` when memory runs out.
@@ -71,7 +71,7 @@ fn count_loaded<A: Counted>(
     }
 }
 
-/// Writes the report on a range by a file that was loaded, unless the range is reversed.
+/// Writes the report on a range from a file that was loaded, unless the range is reversed.
 ///
 /// # Errors
 /// `ReversedRange`; `Write` where a write failed; `OutOfMemory`.
@@ -97,7 +97,7 @@ fn report_in_order<A: Counted, W: Write>(
     }
 }
 
-/// Writes a report on a range by the program database of the bytes.
+/// Writes a report on a range from the program database of the bytes.
 ///
 /// # Errors
 /// As [`run_sizes`].
@@ -118,9 +118,9 @@ fn run_report<A: Counted, W: Write>(
     }
 }
 
-/// Writes how many of the addresses from `start` on and before `end` each function has in the
-/// program database of the bytes: a line for each function, in the order of start, end and name.
-/// Last come `none` and how many addresses have no function.
+/// Writes the number of the addresses from `start` on and before `end` that each function has in
+/// the program database of the bytes: a line for each function, in the order of start, end and
+/// name. Last come `none` and the number of addresses that have no function.
 ///
 /// # Errors
 /// `Load` where the file has a loading fault, then `ReversedRange` where `start` is above `end`,
@@ -137,11 +137,11 @@ pub fn run_sizes<W: Write>(
     run_report::<Function, W>(alloc, bytes, ContributionOrder::InOrder, start, end, writer)
 }
 
-/// Writes how many of the addresses from `start` on and before `end` each source file has in the
-/// program database of the bytes: a line for each file, with its count and its text. The lines
-/// stand in the order of the texts' bytes. Last come `no file`, `none` and `unreadable`: how many
-/// addresses have a function without a known file, no function, and a function whose frames can't
-/// be read.
+/// Writes the number of the addresses from `start` on and before `end` that each source file has in
+/// the program database of the bytes: a line for each file, with its count and its text. The lines
+/// stand in the order of the texts' bytes. Last come `no file`, `none` and `unreadable`: the
+/// numbers of addresses that have a function without a known file, no function, and a function
+/// whose frames can't be read.
 ///
 /// # Errors
 /// `Load` where the file has a loading fault, then `ReversedRange` where `start` is above `end`,
@@ -162,7 +162,7 @@ pub fn run_sizes_by_file<W: Write>(
 /// As [`run_sizes`], where section contributions have to stand in that order.
 ///
 /// # Errors
-/// As those of [`run_sizes`]. In any order no `Load` is for the order of section contributions.
+/// The errors of [`run_sizes`]. In any order no `Load` is for the order of section contributions.
 pub fn run_sizes_with_order<W: Write>(
     alloc: Global,
     bytes: Vec<u8>,
@@ -180,7 +180,7 @@ pub fn run_sizes_with_order<W: Write>(
 /// As [`run_sizes_by_file`], where section contributions have to stand in that order.
 ///
 /// # Errors
-/// As those of [`run_sizes_by_file`]. In any order no `Load` is for the order of section
+/// The errors of [`run_sizes_by_file`]. In any order no `Load` is for the order of section
 /// contributions.
 pub fn run_sizes_by_file_with_order<W: Write>(
     alloc: Global,

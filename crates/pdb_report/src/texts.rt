@@ -50,7 +50,7 @@ fn append_number(output: &mut Vec<u8>, number: Option<u32>) -> Result<(), AllocE
     }
 }
 
-/// Appends a row: where it begins, and its length in bytes; or that there is none.
+/// Appends a row: its start, and its length in bytes; or that there is none.
 fn append_row(output: &mut Vec<u8>, row: Option<FrameRow>) -> Result<(), AllocError>
     ensures { Adds result output.old output.new (row_text row) }
 {
@@ -109,7 +109,7 @@ fn append_frames(output: &mut Vec<u8>, frames: &[SharedFrame<'_>]) -> Result<(),
     Ok(())
 }
 
-/// Appends the lines of an address: its own, and those of its answer.
+/// Appends the lines of an address: its own, and the lines of its answer.
 ///
 /// # Errors
 /// `AllocError` when memory runs out.

@@ -14,7 +14,7 @@ use std::io::ErrorKind;
 /// Writes a piece, and stops at the first failure.
 ///
 /// # Errors
-/// The kind of that failure.
+/// The kind of the failure.
 fn write_piece<W: ErrorOutput>(output: &mut W, piece: PrintedPiece<'_>) -> Result<(), ErrorKind>
     ensures { Puts W.contents W.failures W.has_failed output.old output.new result
         (piece_text piece.entry) }
@@ -41,7 +41,7 @@ fn write_number<W: ErrorOutput>(output: &mut W, number: u64) -> Result<(), Error
 /// Writes pieces, one after the other, and stops at the first failure.
 ///
 /// # Errors
-/// The kind of that failure.
+/// The kind of the failure.
 #[tactic(auto, using(crate::proofs::Pieces::pieces_more, crate::proofs::Pieces::pieces_all, crate::proofs::Pieces::pieces_part))]
 fn write_pieces<W: ErrorOutput>(
     output: &mut W,
@@ -81,7 +81,7 @@ fn line_pieces(fault: &RunFault) -> [PrintedPiece<'_>; 9]
 /// Reports a fault in one line, and stops at the first failure. It takes no memory.
 ///
 /// # Errors
-/// The kind of that failure.
+/// The kind of the failure.
 pub fn tell<W: ErrorOutput>(fault: &RunFault, output: &mut W) -> Result<(), ErrorKind>
     ensures { Puts W.contents W.failures W.has_failed output.old output.new result
         (fault_line fault.now) }

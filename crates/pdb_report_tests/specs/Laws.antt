@@ -1,4 +1,4 @@
--- What the definitions say of each other.
+-- The statements of the definitions about each other.
 use Rattle.std.specs.Prelude.{◌≡◌, ℕ, true, Ok, Err, Some, is_some}
 use Rattle.pdb_addr2line.specs.Loading.{Loaded, loaded}
 use Rattle.pdb_frames.specs.Choice.{Parts}
@@ -17,8 +17,8 @@ abbrev pub FailsInAPart : Parts → (ℕ → Scope) → ℕ → Type 0
 FailsInAPart parts scope address =
     (e : Fault) → frames parts scope address ≡ Err e → is_some (failing parts scope address) ≡ true
 
--- A file's answer for an address has one frame more than the depth of the deepest inline site over
--- the address's place.
+-- The number of frames of a file's answer for an address is one more than the depth of the deepest
+-- inline site over the address's place.
 abbrev pub AnswersAsDeep : Streams → ℕ → Type 0
 AnswersAsDeep s address = (found : FunctionFrames) → answer s address ≡ Ok (Some found)
     → (l : Loaded) × (loaded (shared s) ≡ Ok l) × AreAsDeep l.parts (scope s l) address found.frames

@@ -15,6 +15,6 @@ one_function = record {
   is_bound = λ p. (p.section == 1) && ((p.offset == 16) || (p.offset == 48));
 }
 
--- that database, in which each function stands for itself
+-- the same database, in which each function stands for itself
 abbrev pub keyed_function : Keyed Function Function
 keyed_function = record { answer_of = Some; places = one_function }

@@ -140,8 +140,8 @@ file_f =
     ∷ 0x61 ∷ 0x2e ∷ 0x63 ∷ []) ++
     replicate 1776 0
 
--- File F with an inline site `g()` in `f`, and a site `h()` in that one. The only row of `g()` is
--- line 3 of `b.h` at 0x10, and the only row of `h()` is line 9 of `c.h` at 0x18, of 4 bytes each.
+-- File F with an inline site `g()` in `f`, and a site `h()` in `g()`. The only row of `g()` is line
+-- 3 of `b.h` at 0x10, and the only row of `h()` is line 9 of `c.h` at 0x18, of 4 bytes each.
 unfoldable pub nested_sites : List ℕ
 nested_sites =
     (0x4d ∷ 0x69 ∷ 0x63 ∷ 0x72 ∷ 0x6f ∷ 0x73 ∷ 0x6f ∷ 0x66 ∷ 0x74 ∷ 0x20 ∷ 0x43 ∷ 0x2f ∷ 0x43

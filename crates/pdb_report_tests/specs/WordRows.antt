@@ -23,11 +23,12 @@ short_words = codes "sizes" ∷ codes "F" ∷ codes "10" ∷ []
 abbrev pub Told : Type 0
 Told = Text × Option Text × Option ℕ × Option ℕ
 
--- what `sizes F` and two more arguments enter, by the addresses that these are
+-- the subcommand and values that `sizes F` and two more arguments enter, from the addresses that
+-- these are
 abbrev pub sizes_told : Option ℕ → Option ℕ → Told
 sizes_told start end = (codes "sizes", Some (codes "F"), start, end)
 
--- what arguments enter
+-- the subcommand and values that arguments enter
 abbrev pub told_of : List Text → Option Told
 told_of words = option_map (λ e. (
   e.0,

@@ -1,12 +1,12 @@
-//! How many texts are made ahead of their turn to be written.
+//! The number of texts that are made ahead of their turn to be written.
 
 use pdb_engine::{AddressStart, Answers, InputFault, Watched, parse_address, run};
 use std::alloc::{AllocError, Global};
 use std::io::{self, Write};
 use std::test::Fail;
 
-/// Answers each line with a long text, whose first byte is the number of the call. Lines come
-/// before those with lesser addresses.
+/// A value that answers each line with a long text, whose first byte is the number of the call.
+/// Lines come before those with lesser addresses.
 #[derive(Drop)]
 struct Numbered {
     calls: u8,
@@ -45,7 +45,8 @@ impl Answers for Numbered {
     }
 }
 
-/// Takes all bytes that it is given, and stores the first of each call, up to sixteen of them.
+/// A writer that takes all bytes that it is given, and stores the first of each call, up to sixteen
+/// of them.
 #[derive(Drop)]
 struct FirstBytes {
     bytes: [u8; 16],
@@ -84,8 +85,8 @@ const CASES: &[Case] = &[
     (8_388_607, b"1\n2\n3\n4\n", &[3, 4, 2, 1]),
 ];
 
-/// Answers the lines of a case, and returns the first byte of each write, how many writes there
-/// were, and how that ends.
+/// Answers the lines of a case, and returns the first byte of each write, the number of writes, and
+/// how the run ends.
 fn answered(alloc: Global, case: &Case) -> Result<(FirstBytes, Result<(), InputFault>), Fail> {
     let (size, lines, _) = *case;
     let mut answers = Numbered {

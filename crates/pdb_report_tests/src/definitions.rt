@@ -1,4 +1,4 @@
-//! What the definitions say of the rows' files.
+//! The statements of the definitions about the rows' files.
 
 ghost use Rattle.std.specs.Prelude.{◌≡◌, ◌++◌, Some, None, codes};
 ghost use Rattle.std.specs.declared.io.ErrorKind.TheVariants.{UnexpectedEof};
@@ -32,7 +32,7 @@ pub fn nested_sites()
         ++ codes "  f at a.c:7 @0x00001018+24\n" }
 {}
 
-/// A public function's line is that of the rows before it.
+/// A public function's line comes from the rows before it.
 pub fn public_beside()
     ensures { report_by samples.public_beside (codes "1036\n")
         ≡ codes "0x00001036\n  ?p@@YAXXZ at a.c:7 @0x00001018+24\n" }

@@ -13,7 +13,7 @@ pub enum File {
     /// File F whose code was moved: two OMAPs lead from 0x2000 to the code at 0x1010 and back, and
     /// nowhere from 0x2008 on.
     MovedCode,
-    /// File F with an inline site of `g` in `f`, and one of `h` in that.
+    /// File F with an inline site of `g` in `f`, and one of `h` in `g`.
     NestedSites,
     /// File F0 with one change.
     With(Change),
@@ -85,12 +85,12 @@ fn push_stream(database: &mut ProgramDatabase, place: usize, stream: Vec<u8>) ->
     Ok(())
 }
 
-/// Why a run ended early: how a read or a write failed, or out of memory, or another cause.
+/// The cause with which a run ended early: a failed read or write, out of memory, or another one.
 #[derive(Clone, Copy, Debug, PartialEq)]
 pub enum Stop {
-    /// A read failed with that kind.
+    /// A read failed with this kind.
     Read(ErrorKind),
-    /// A write failed with that kind.
+    /// A write failed with this kind.
     Write(ErrorKind),
     /// Out of memory.
     OutOfMemory,
@@ -98,7 +98,7 @@ pub enum Stop {
     Other,
 }
 
-/// Returns why a run with that fault ended.
+/// Returns the cause with which a run with that fault ended.
 fn stop_of(fault: &RunFault) -> Stop {
     match fault {
         RunFault::Read(kind) => Stop::Read(*kind),
@@ -108,13 +108,13 @@ fn stop_of(fault: &RunFault) -> Stop {
     }
 }
 
-/// How a run without a value ended.
+/// The outcome of a run without a value.
 pub type Outcome = std::result::Result<(), Stop>;
 
-/// Returns how a run ended.
+/// Returns the outcome of a run.
 ///
 /// # Errors
-/// Why it ended early.
+/// The cause with which the run ended early.
 pub fn ended<T>(outcome: std::result::Result<T, RunFault>) -> std::result::Result<T, Stop> {
     match outcome {
         Ok(value) => Ok(value),

@@ -1,4 +1,4 @@
-//! What the definitions say of each other.
+//! The statements of the definitions about each other.
 
 ghost use Rattle.std.specs.Prelude.{ℕ};
 ghost use Rattle.pdb_symbols_modules.specs.Streams.{Streams};

@@ -1,6 +1,6 @@
-//! The answers for program databases whose bytes are known, by the definitions and by the program's
-//! calls; and what comes of the program's arguments. Also tests of formatters and contexts that no
-//! recorded case can make, and of the drop-in for `llvm-symbolizer`.
+//! The answers for program databases whose bytes are known, from the definitions and from the
+//! program's calls; and what comes of the program's arguments. Also tests of formatters and
+//! contexts that no recorded case can make, and of the drop-in for `llvm-symbolizer`.
 //!
 //! Tests may be added. An expected value comes from the format, never from this repository's code.
 #![tactic(auto)]

@@ -6,10 +6,10 @@ use std::alloc::Global;
 use std::io::{self, Read};
 use std::test::Fail;
 
-/// The answer to the line 1014 by file F.
+/// The answer to the line 1014 from file F.
 const ANSWER: &[u8] = b"0x00001014\n  f at a.c:5 @0x00001010+8\n";
 
-/// Gives the same bytes at each of `times` calls, and then its end.
+/// A reader that gives the same bytes at each of `times` calls, and then its end.
 #[derive(Drop)]
 struct Repeated {
     bytes: &'static [u8],
@@ -41,7 +41,7 @@ const CASES: &[Case] = &[
     (b"1014\n", 1, 4, b"", true),
 ];
 
-/// Answers the lines of a case by file F, and returns what is written, and how that ends.
+/// Answers the lines of a case from file F, and returns what is written, and how the run ends.
 fn answered(alloc: Global, case: &Case) -> Result<(Vec<u8>, Result<(), RunFault>), Fail> {
     let symbolizer = match Symbolizer::open(alloc, F.bytes(alloc)?) {
         Ok(symbolizer) => symbolizer,

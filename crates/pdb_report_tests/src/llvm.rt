@@ -1,4 +1,4 @@
-//! Tests of what the drop-in for `llvm-symbolizer` reads: images. An expected value comes from the
+//! Tests of images, which the drop-in for `llvm-symbolizer` reads. An expected value comes from the
 //! format.
 
 mod images;

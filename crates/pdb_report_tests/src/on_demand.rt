@@ -60,7 +60,7 @@ fn unread<'a>(
     Ok(FileOnDemand::new(alloc, arena, file, size)?)
 }
 
-/// What is written for the input, how the run ends, and how often the file was read.
+/// The report on the input, how the run ends, and how often the file was read.
 fn report_of(alloc: Global, file: InMemory) -> Result<(Vec<u8>, Result<(), RunFault>, u64), Fail> {
     let arena = Bump::new(alloc);
     let source = unread(alloc, &arena, file)?;
@@ -79,7 +79,7 @@ fn report_of(alloc: Global, file: InMemory) -> Result<(Vec<u8>, Result<(), RunFa
     Ok((report, outcome, reads))
 }
 
-/// The reports on a range by a whole file: by function, and by source file.
+/// The reports on a range from a whole file: by function, and by source file.
 fn whole_sizes(alloc: Global) -> Result<[Vec<u8>; 2], Fail> {
     let mut by_function = Vec::new(alloc);
     let mut writer = Watched::new(&mut by_function);
@@ -92,7 +92,7 @@ fn whole_sizes(alloc: Global) -> Result<[Vec<u8>; 2], Fail> {
     Ok([by_function, by_file])
 }
 
-/// The same by a file that is read on demand.
+/// The same from a file that is read on demand.
 fn demanded_sizes(alloc: Global) -> Result<[Vec<u8>; 2], Fail> {
     let arena = Bump::new(alloc);
     let mut by_function = Vec::new(alloc);

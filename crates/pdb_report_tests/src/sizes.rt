@@ -1,4 +1,4 @@
-//! Reports on ranges of addresses, and how many addresses were looked up for them.
+//! Reports on ranges of addresses, and the number of addresses that were looked up for them.
 
 use crate::files::{F, F0, File, Stop, ended};
 use pdb_report::{Tally, Watched, run_sizes, run_sizes_by_file};
@@ -6,10 +6,10 @@ use pdb_samples::Change;
 use std::alloc::Global;
 use std::test::Fail;
 
-/// How a run ends.
+/// The outcome of a run.
 type Outcome = Result<Tally, Stop>;
 
-/// What is counted.
+/// The answers that are counted.
 #[derive(Clone, Copy)]
 enum Counted {
     Functions,

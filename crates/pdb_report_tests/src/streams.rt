@@ -7,7 +7,7 @@ use std::alloc::Global;
 use std::io::ErrorKind;
 use std::test::Fail;
 
-/// What a file is asked for, and what is reported.
+/// A question about a file, and the report that answers it.
 #[derive(Clone, Copy)]
 struct Row {
     file: File,
@@ -73,7 +73,7 @@ const CUT_LINE: Row = Row {
     ],
 };
 
-/// How a reader or a writer fails at each place, if it does.
+/// The failure of a reader or a writer at each place, if it fails.
 const FAULTS: [Option<ErrorKind>; 2] = [None, Some(ErrorKind::Interrupted)];
 
 /// Each kind of failure.
@@ -122,25 +122,26 @@ const KINDS: &[ErrorKind] = &[
     ErrorKind::Uncategorized,
 ];
 
-/// How a reader and a writer behave.
+/// The behaviour of a reader and a writer.
 #[derive(Clone, Copy)]
 struct Ends {
     /// The greatest number of bytes that a read gives and a write takes.
     piece: usize,
-    /// How many bytes the reader gives before its failure, or without one before the rest.
+    /// The number of bytes that the reader gives before its failure, or without one before the
+    /// rest.
     cut: usize,
-    /// How the reader fails, if it does.
+    /// The failure of the reader, if it fails.
     read_fault: Option<ErrorKind>,
-    /// How many bytes the writer takes.
+    /// The number of bytes that the writer takes.
     room: usize,
-    /// How the writer fails after these, if it doesn't stall.
+    /// The failure of the writer after these, if it doesn't stall.
     write_fault: Option<ErrorKind>,
 }
 
-/// How many calls failed, and how the last one did.
+/// The number of calls that failed, and how the last one did.
 type Failures = (u64, Option<ErrorKind>);
 
-/// What a run wrote, the failures of its reader and of its writer, and how it ended.
+/// The bytes that a run wrote, the failures of its reader and of its writer, and how it ended.
 type Ran = (Vec<u8>, Failures, Failures, Outcome);
 
 /// Runs over a row.
@@ -181,7 +182,7 @@ fn run(alloc: Global, row: &Row, ends: Ends) -> Result<Ran, Fail> {
     }
 }
 
-/// Returns how a run ends whose reader fails with that kind, or doesn't fail.
+/// Returns the outcome of a run whose reader fails with that kind, or doesn't fail.
 fn read_outcome(kind: Option<ErrorKind>) -> Outcome {
     match kind {
         None => Ok(()),
@@ -190,7 +191,7 @@ fn read_outcome(kind: Option<ErrorKind>) -> Outcome {
     }
 }
 
-/// Returns how a run ends whose writer fails with that kind, or doesn't fail.
+/// Returns the outcome of a run whose writer fails with that kind, or doesn't fail.
 fn write_outcome(kind: Option<ErrorKind>) -> Outcome {
     match kind {
         None => Ok(()),
@@ -208,13 +209,13 @@ fn joined(alloc: Global, row: &Row, count: usize) -> Result<Vec<u8>, Fail> {
     Ok(report)
 }
 
-/// Returns how many lines end in these bytes.
+/// Returns the number of lines that end in these bytes.
 fn count_ended(input: &[u8]) -> usize {
     input.iter().filter(|byte| **byte == b'\n').count()
 }
 
 /// Returns whether the right report comes where the reader gives pieces. If it fails after `cut`
-/// bytes, that is the report on the lines that end before, or else the whole one.
+/// bytes, it is the report on the lines that end before, or else the whole one.
 fn is_read(
     alloc: Global,
     row: &Row,
@@ -242,8 +243,8 @@ fn is_read(
     )
 }
 
-/// Returns the first offset in a row's input at which a reader that fails like that leads to a
-/// wrong report, if any does.
+/// Returns the first offset in a row's input at which a reader with this failure leads to a wrong
+/// report, if any does.
 fn first_misread(
     alloc: Global,
     row: &Row,
@@ -334,8 +335,8 @@ fn is_written(
     )
 }
 
-/// Returns the least room with which a writer that fails like that leads to a wrong report on a
-/// row, if any does.
+/// Returns the least room with which a writer with this failure leads to a wrong report on a row,
+/// if any does.
 fn first_miswritten(
     alloc: Global,
     row: &Row,

@@ -1,4 +1,4 @@
-//! Calls of a watched reader or writer: each is one call of what it wraps, which no clause says.
+//! Calls of a watched reader or writer: each is one call of the wrapped one, which no clause says.
 
 use crate::files::line_buffer;
 use pdb_report::Watched;
@@ -6,7 +6,7 @@ use pdb_samples::{PieceReader, PieceWriter};
 use std::io::{self, ErrorKind};
 use std::test::Fail;
 
-/// What a call returns, and how many calls have failed after it.
+/// The result of a call, and the number of calls that have failed after it.
 type Call = (Result<usize, ErrorKind>, u64);
 
 /// Returns the number of bytes that a call took, or the kind of its failure.

@@ -1,4 +1,4 @@
-//! How many writes answers take, and how faults are reported, whole or in part.
+//! The number of writes that answers take, and the reports of faults, whole or in part.
 
 use crate::files::{F0, Outcome, Stop, ended, line_buffer};
 use pdb_report::{RunFault, Watched, finish_run, run_frames};
@@ -7,7 +7,7 @@ use std::alloc::Global;
 use std::io::{self, ErrorKind, Read, Write};
 use std::test::Fail;
 
-/// Gives `left` newlines in all, and at most `most` of them at each call.
+/// A reader that gives `left` newlines in all, and at most `most` of them at each call.
 #[derive(Drop)]
 struct Newlines {
     left: usize,
@@ -23,7 +23,7 @@ impl Read for Newlines {
     }
 }
 
-/// Takes all bytes that it is given, and counts the calls.
+/// A writer that takes all bytes that it is given, and counts the calls.
 #[derive(Drop)]
 struct CallCounter {
     calls: usize,
@@ -40,8 +40,8 @@ impl Write for CallCounter {
     }
 }
 
-/// Answers `lines` empty lines by file F0, of which a read gives at most `most`. Returns how the
-/// run ends, and how many writes it takes.
+/// Answers `lines` empty lines from file F0, of which a read gives at most `most`. Returns how the
+/// run ends, and the number of writes that it takes.
 fn count_writes(alloc: Global, lines: usize, most: usize) -> Result<(Outcome, usize), Fail> {
     let file = F0.bytes(alloc)?;
     let mut reader = Watched::new(Newlines { left: lines, most });
@@ -61,8 +61,8 @@ fn are_gathered(alloc: Global, lines: usize, most: usize, writes: usize) -> Resu
     Ok(outcome == Ok(()) && calls == writes)
 }
 
-/// The number of empty lines, how many of them a read gives at most, and how many writes their
-/// answers take. Each answer has 15 bytes.
+/// The number of empty lines, the most of them that a read gives, and the number of writes that
+/// their answers take. Each answer has 15 bytes.
 const GATHERED: &[(usize, usize, usize)] = &[
     // The answers to the lines of a read go out together.
     (1_000, usize::MAX, 1),

@@ -26,7 +26,7 @@ no_failures = record { modules = []; lines = []; inline_ranges = [] }
 abbrev pub IsPlace : PdbInternalSectionOffset → Type 0
 IsPlace place = (place.section < 2 ^ 16) × (place.offset < 2 ^ 32)
 
--- so has the place that a part is named by, if it is
+-- a part that is named by a place is named by such a place
 abbrev pub IsPart : Part → Type 0
 IsPart (ExtendedModule m) = Unit {0}
 IsPart (ProcedureLines m start) = IsPlace start
@@ -42,7 +42,7 @@ has_failed f (ExtendedModule m) = stands f.modules m
 has_failed f (ProcedureLines m start) = stands f.lines (number_of m start)
 has_failed f (ProcedureInlineRanges m start) = stands f.inline_ranges (number_of m start)
 
--- what stands as failed with one more part
+-- the parts that stand as failed, with one more
 abbrev pub with_failed : Failures → Part → Failures
 with_failed f (ExtendedModule m) = record {
   modules = with_part f.modules m;

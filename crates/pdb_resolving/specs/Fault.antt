@@ -1,4 +1,4 @@
--- Faults of answers about types, functions and addresses: what an error counts as, and when a call
+-- Faults of answers about types, functions and addresses: the fault of an error, and when a call
 -- may return one.
 use Rattle.std.specs.Prelude.{◌≡◌, ℕ, List, Result, Ok, Err}
 use Rattle.std.specs.String.{string_bytes}
@@ -34,8 +34,8 @@ abbrev pub error_of : container.Error → Error
 error_of causes.OutOfMemory = errors.OutOfMemory
 error_of e = errors.PdbError e
 
--- what fault an error is; out of memory and a writer's refusal are none, and its values there stand
--- in no promise
+-- the fault of an error; out of memory and a writer's refusal have none, and no promise uses the
+-- values that stand for them
 abbrev pub fault_of : Error → Fault
 fault_of (errors.FormatError e) = CantResolveCrossModuleRefWithoutStringTable
 fault_of (errors.PdbError e) = PdbError (container_fault.fault_of e)
@@ -58,12 +58,12 @@ fault_of (errors.ModuleInfoNotFound a) = ModuleInfoNotFound a
 fault_of (errors.CircularTypeDefinition a) = CircularTypeDefinition a
 fault_of errors.OutOfMemory = CantResolveCrossModuleRefWithoutStringTable
 
--- a fault of the container is one of these
+-- a reading of the container, with its fault as one of these
 abbrev pub lifted : {A : Type 0} → Result A container_fault.Fault → Result A Fault
 lifted (Ok x) = Ok x
 lifted (Err e) = Err (PdbError e)
 
--- A call fails: memory was short, or reading has that fault. Out of memory never comes as the
+-- A call fails: memory was short, or the reading has that fault. Out of memory never comes as the
 -- container's, and no writer is asked.
 abbrev pub Fails : {Y : Type 0} → Error → Result Y Fault → Type 0
 Fails errors.OutOfMemory read = Unit {0}
@@ -71,13 +71,13 @@ Fails (errors.PdbError causes.OutOfMemory) read = ⊥
 Fails (errors.FormatError e) read = ⊥
 Fails e read = read ≡ Err (fault_of e)
 
--- What a call returned, seen by view, is what reading gives, unless memory was short.
+-- A call's result, seen by view, is the reading's value or fault, unless memory was short.
 abbrev pub Answers : {X Y : Type 0} → (X → Y) → Result X Error → Result Y Fault → Type 0
 Answers view (Ok x) read = read ≡ Ok (view x)
 Answers view (Err e) read = Fails e read
 
--- a fault that what gives modules may return: never one that could be taken for a type's own, nor a
--- failed read
+-- a fault that a provider may return: never one that could be taken for a type's own, nor a failed
+-- read
 abbrev pub IsOfModules : container_fault.Fault → Type 0
 IsOfModules (container_fault.TypeNotFound index) = ⊥
 IsOfModules (container_fault.UnimplementedTypeKind leaf) = ⊥

@@ -1,5 +1,5 @@
--- What is cached of the modules among which indices are resolved: the tables that were read, and
--- the indices of modules by their names.
+-- The cache of the modules among which indices are resolved: the tables that were read, and the
+-- indices of modules by their names.
 use Rattle.std.specs.Prelude.{◌≡◌, ℕ, ◌≤◌, List, Some, Result, Ok, Err, IfErr, String}
 use Rattle.std.specs.Prelude.{string_bytes}
 use Rattle.std.specs.declared.alloc.Global.{Global}
@@ -23,7 +23,7 @@ use Rattle.pdb_resolving.specs.Fault.{ModuleNameNotFound, PdbError, Fails, lifte
 use Rattle.pdb_resolving.specs.declared.error.Error.{Error}
 use Rattle.pdb_resolving.specs.Resolving.{Modules, last_named, imports_of, exports_of, exported}
 
--- Each table that is cached is what reading gives of its module.
+-- Each cached table is what reading gives of its module.
 pub record AreRead {T : Type 0} (read : ℕ → Result T Fault) (tables : BTreeMap ℕ T) : Type 0 where
   pub each : (number : ℕ) (table : T) → get nat_cmp tables number ≡ Some table
       → read number ≡ Ok table
@@ -34,7 +34,8 @@ abbrev pub entry_of : CrossModuleExport → Entry
 entry_of (forms.OfType local global) = record { local = local.0.0; global = global.0 }
 entry_of (forms.Id local global) = record { local = local.0.0; global = global.0 }
 
--- Under each index as the module names it stands what the first of these exports of it gives.
+-- Under each index as the module names it stands the index that the first of these exports of it
+-- gives.
 pub record AreFirst (exports : List Entry) (firsts : BTreeMap ℕ ℕ) : Type 0 where
   pub each : (local : ℕ) → get nat_cmp firsts local ≡ first_export exports local
 
@@ -51,7 +52,7 @@ pub record AreNames (entries : List Module) (names : ModuleNames) : Type 0 where
 
 -- ---- an index that leads into another module, in the steps that are gone
 
--- what a module imports by an index
+-- the import of a module under an index
 abbrev pub import_of : Modules → ℕ → ℕ → Result Imported Cause
 import_of modules asking index = do
   imports ← imports_of modules asking
@@ -66,8 +67,8 @@ numbered name entries =
 abbrev pub named_at : List ℕ → List Module → ℕ → Result ℕ Fault
 named_at names entries place = lifted (text_in names place) >>= λ name. numbered name entries
 
--- What is stored by the places of names is so: a module's number; that from a place on no name
--- ends; a name that no module has.
+-- The values stored by the places of names are right: a module's number; a place from which on no
+-- name ends; a name that no module has.
 pub record AreNamed (names : List ℕ) (entries : List Module) (named : NamedModules) : Type 0 where
   pub number : (place n : ℕ) → get nat_cmp named.numbers place ≡ Some n
       → named_at names entries place ≡ Ok n
@@ -76,25 +77,25 @@ pub record AreNamed (names : List ℕ) (entries : List Module) (named : NamedMod
   pub missing : (m : MissingName) → named.missing ≡ Some m
       → named_at names entries m.place ≡ Err (ModuleNameNotFound (string_bytes m.name))
 
--- where what is stored of names and modules is so, a place is refused only by its fault
+-- a place is refused only by its fault, where the values stored of names and modules are right
 abbrev pub RefusesAt : {X : Type 0} → NamedModules → ℕ → Result X Error → Type 0
 RefusesAt named place result =
     (names : List ℕ) (entries : List Module) → AreNamed names entries named
     → IfErr result (λ e. Fails e (named_at names entries place))
 
--- where what is stored of names and modules is so, it still is once a place's fault was stored
+-- the values stored of names and modules stay right once a place's fault was stored
 abbrev pub StayNamed : NamedModules → NamedModules → ℕ → Error → Type 0
 StayNamed old new place e =
     (names : List ℕ) (entries : List Module) → AreNamed names entries old
     → Fails e (named_at names entries place) → AreNamed names entries new
 
--- what a module exports first under an index as it names it
+-- the first export of a module under an index as it names it
 abbrev pub export_of : Modules → ℕ → ℕ → Result ℕ Cause
 export_of modules number local = do
   exports ← exports_of modules number
   of_no_table (exported exports local)
 
--- what an index stands for that leads into another module, by these steps
+-- the index for which an index that leads into another module stands, by these steps
 unfoldable pub resolved_by_steps : Modules → ℕ → ℕ → Result ℕ Cause
 resolved_by_steps modules asking index = do
   names ← of_no_table (ok_or modules.names CantResolveCrossModuleRefWithoutStringTable)

@@ -1,4 +1,4 @@
--- Indices that lead into another module, and what they stand for in the tables of types and ids.
+-- Indices that lead into another module, and the indices in the tables for which they stand.
 use Rattle.std.specs.Prelude.{ℕ, ◌+◌, Bool, List, [], ◌∷◌, Option, None, Some, Result, Ok, Err}
 use Rattle.std.specs.Prelude.{slice_get, if◌then◌else◌}
 use Rattle.std.specs.Option.{ok_or}
@@ -21,8 +21,8 @@ use Rattle.pdb_resolving.specs.Fault.{CantResolveCrossModuleRefWithoutStringTabl
 use Rattle.pdb_resolving.specs.Fault.{ModuleNameNotFound, LocalIndexNotInExports}
 use Rattle.pdb_resolving.specs.Fault.{OutOfRangeModuleIndex, ModuleInfoNotFound, lifted}
 
--- what gives modules: by a module's index and entry what its own stream holds, if it has one, or
--- the fault
+-- a provider's answers: by a module's index and entry the content of its own stream, if it has one,
+-- or the fault
 abbrev pub Provided : Type 0
 Provided = ℕ → Module → Result (Option ModuleStream) container_fault.Fault
 
@@ -35,8 +35,8 @@ pub record FailedTables : Type 0 where
 abbrev pub none_failed : FailedTables
 none_failed = record { imports = []; exports = [] }
 
--- the modules of a database: their entries in order, what is given of each, the names by which they
--- refer to one another, and which of their tables stand as failed
+-- the modules of a database: their entries in order, the provider's answers, the names by which
+-- they refer to one another, and those of their tables that stand as failed
 pub record Modules : Type 0 where
   pub entries : List Module
   pub provided : Provided
@@ -45,12 +45,12 @@ pub record Modules : Type 0 where
 
 -- ---- names of modules
 
--- whether a module has a name, upper and lower case of ASCII letters apart
+-- whether a module has a name, without regard to ASCII case
 abbrev pub is_named : List ℕ → Module → Bool
 is_named name m = str_eq_ignore_ascii_case (utf8_lossy m.module_name) name
 
 -- the place after one more element, of which is known whether it is the one that is looked for, if
--- none is after it
+-- no such element is after it
 abbrev pub place_from : Bool → Option ℕ → Option ℕ
 place_from here (Some n) = Some (n + 1)
 place_from here None = if here then Some 0 else None
@@ -66,33 +66,33 @@ last_named name entries = last_place (is_named name) entries
 
 -- ---- indices
 
--- what the module with that index holds
+-- the content of the module with that index
 unfoldable pub module_numbered : Provided → List Module → ℕ → Result ModuleStream Fault
 module_numbered provided entries number = do
   entry ← ok_or (slice_get entries number) (OutOfRangeModuleIndex number)
   stream ← lifted (provided number entry)
   ok_or stream (ModuleInfoNotFound number)
 
--- what the module with that index imports, as its stream says
+-- the imports of the module with that index, from its stream
 unfoldable pub imports_read : Provided → List Module → ℕ → Result (List Import) Fault
 imports_read provided entries number = do
   own ← module_numbered provided entries number
   lifted (imports_in own)
 
--- what the module with that index exports, as its stream says
+-- the exports of the module with that index, from its stream
 unfoldable pub exports_read : Provided → List Module → ℕ → Result (List Entry) Fault
 exports_read provided entries number = do
   own ← module_numbered provided entries number
   lifted (exports_in own)
 
--- what the module with that index imports, unless that stands as failed
+-- the imports of the module with that index, unless they stand as failed
 abbrev pub imports_of : Modules → ℕ → Result (List Import) Cause
 imports_of modules number =
     if stands modules.failed.imports number
     then Err (ByFault ModuleImportsUnsuccessful)
     else of_table (tables.Imports number) (imports_read modules.provided modules.entries number)
 
--- what the module with that index exports, unless that stands as failed
+-- the exports of the module with that index, unless they stand as failed
 abbrev pub exports_of : Modules → ℕ → Result (List Entry) Cause
 exports_of modules number =
     if stands modules.failed.exports number
@@ -103,8 +103,8 @@ exports_of modules number =
 abbrev pub exported : List Entry → ℕ → Result ℕ Fault
 exported exports local = ok_or (first_export exports local) (LocalIndexNotInExports local)
 
--- What an index of the asking module stands for that leads into another one: that module's first
--- export of what the asking module imports. The other module is the last one of the imported name.
+-- The index for which an index of the asking module stands that leads into another one: the other
+-- module's first export of the import. The other module is the last one of the imported name.
 unfoldable pub resolved_elsewhere : Modules → ℕ → ℕ → Result ℕ Cause
 resolved_elsewhere modules asking index = do
   names ← of_no_table (ok_or modules.names CantResolveCrossModuleRefWithoutStringTable)
@@ -116,22 +116,22 @@ resolved_elsewhere modules asking index = do
   exports ← exports_of modules number
   of_no_table (exported exports target.local)
 
--- what an index stands for as a module has it: without bit 31 itself
+-- the index for which an index stands as a module has it: without bit 31 itself
 abbrev pub resolve : Modules → ℕ → ℕ → Result ℕ Cause
 resolve modules asking index =
     if is_cross_module index then resolved_elsewhere modules asking index else Ok index
 
 -- ---- modules as they are stored
 
--- what resolving goes by: what gives modules, their entries, the names, and the tables that stand
--- as failed
+-- the values by which indices are resolved: the provider, the modules' entries, the names, and the
+-- tables that stand as failed
 pub record Kept (P : Type 0) : Type 0 where
   pub provider : P
   pub entries : List Module
   pub names : Option (List ℕ)
   pub failed : FailedTables
 
--- these, where no table stands as failed
+-- these values, where no table stands as failed
 abbrev pub none_failed_of : {P : Type 0} → P → List Module → Option (List ℕ) → Kept P
 none_failed_of provider entries names = record {
   provider = provider;
@@ -140,7 +140,7 @@ none_failed_of provider entries names = record {
   failed = none_failed;
 }
 
--- these modules, by what the provider gives
+-- the modules of these values, with the provider's answers
 
 abbrev pub modules_by : {P : Type 0} → (P → Provided) → Kept P → Modules
 modules_by provided kept = record {
@@ -159,6 +159,6 @@ with_table failed (tables.Imports number) =
 with_table failed (tables.Exports number) =
     record failed { exports = with_part failed.exports number }
 
--- what resolving goes by, with one more table that stands as failed
+-- the values by which indices are resolved, with one more table that stands as failed
 abbrev pub with_failed : {P : Type 0} → Kept P → Table → Kept P
 with_failed kept table = record kept { failed = with_table kept.failed table }

@@ -1,4 +1,4 @@
-//! Why a call about a type, a function or an address fails.
+//! Errors of calls about types, functions and addresses.
 
 ghost use Rattle.std.specs.Prelude.{◌≡◌};
 ghost use Rattle.pdb_resolving.specs.declared.error.Error.TheVariants as errors;
@@ -7,10 +7,10 @@ use std::alloc::{AllocError, AllocFailed};
 use std::fmt;
 use thiserror::Error as ThisError;
 
-/// What a call returns, or why it fails.
+/// The result of a call about a type, a function or an address.
 pub type Result<T> = std::result::Result<T, Error>;
 
-/// Why a type, a function or an address has no answer.
+/// The cause for which a type, a function or an address has no answer.
 #[derive(Debug, Drop, PartialEq, ThisError)]
 pub enum Error {
     /// The writer refused the text.
@@ -19,7 +19,7 @@ pub enum Error {
     /// The program database couldn't be read, for this cause, which is never that memory ran out.
     #[error("PDB error: {0}")]
     PdbError(pdb_container::Error),
-    /// What a method's type names as its argument list is no argument list.
+    /// The argument list that a method's type names is no argument list.
     #[error("Unexpected type for argument list")]
     ArgumentTypeNotArgumentList,
     /// The type of a function's id is no procedure.
@@ -32,7 +32,7 @@ pub enum Error {
     /// ends before the first.
     #[error("There are consecutive section contributions for module {0} and section {1} which are not ordered by offset")]
     UnorderedSectionContributions(usize, u16),
-    /// In this section the contributions of these two modules overlap.
+    /// The contributions of these two modules overlap in this section.
     #[error("Overlapping section contributions in section {0} from modules {1} and {2}")]
     OverlappingSectionContributions(u16, usize, usize),
     /// A procedure's lines couldn't be read when they were asked for before.
@@ -50,7 +50,7 @@ pub enum Error {
     /// A module's exports couldn't be read when they were asked for before.
     #[error("Getting the module exports was unsuccessful")]
     ModuleExportsUnsuccessful,
-    /// The index leads into another module, and there is no string table that says into which.
+    /// The index leads into another module, and there is no string table that names the module.
     #[error("Could not resolve cross-module reference due to missing string table")]
     CantResolveCrossModuleRefWithoutStringTable,
     /// No module has this name, which is in ASCII lower case.

@@ -9,7 +9,7 @@ use pdb_addresses::PdbInternalSectionOffset;
 use std::alloc::{AllocError, Global};
 use std::marker::Model;
 
-/// A part of the module with that index that frames are made of.
+/// A part of the module with that index from which frames are made.
 #[derive(Clone, Copy)]
 pub enum Part {
     /// Its line program and inlinees.

@@ -20,7 +20,7 @@ pub type KeptImports<'a> = BTreeMap<usize, CrossModuleImports<'a>>;
 /// The exports of modules that were read, each under its module's index.
 pub type KeptExports<'a> = BTreeMap<usize, ModuleExports<'a>>;
 
-/// Reads and caches what the module with that index imports, unless it is cached.
+/// Reads and caches the imports of the module with that index, unless they are cached.
 ///
 /// # Errors
 /// The module's fault, or that of its imports; `OutOfMemory`. Nothing is cached then.
@@ -45,7 +45,7 @@ pub fn keep_imports<'a, P: ModuleProvider>(
     Ok(())
 }
 
-/// Reads and caches what the module with that index exports, unless it is cached.
+/// Reads and caches the exports of the module with that index, unless they are cached.
 ///
 /// # Errors
 /// The module's fault, or that of its exports; `OutOfMemory`. Nothing is cached then.
@@ -70,7 +70,7 @@ pub fn keep_exports<'a, P: ModuleProvider>(
     Ok(())
 }
 
-/// What the module with that index imports.
+/// The imports of the module with that index.
 ///
 /// # Errors
 /// The module's fault, or that of its imports; `OutOfMemory`.
@@ -87,7 +87,7 @@ fn read_imports<'p, P: ModuleProvider>(
     Ok(own.imports(alloc)?)
 }
 
-/// What the module with that index exports.
+/// The exports of the module with that index.
 ///
 /// # Errors
 /// The module's fault, or that of its exports; `OutOfMemory`.
@@ -105,7 +105,7 @@ fn read_exports<'p, P: ModuleProvider>(
     Ok(ModuleExports::read(alloc, exports)?)
 }
 
-/// What the module with that index holds.
+/// The content of the module with that index.
 ///
 /// # Errors
 /// `OutOfRangeModuleIndex`, the provider's fault, `ModuleInfoNotFound`; `OutOfMemory`.
@@ -128,7 +128,7 @@ fn module_info<'p, P: ModuleProvider>(
     }
 }
 
-/// What the module with that index and entry holds, if it has a stream of its own.
+/// The content of the module with that index and entry, if it has a stream of its own.
 ///
 /// # Errors
 /// The provider's fault; `OutOfMemory`.

@@ -8,7 +8,7 @@ ghost use Rattle.pdb_resolving.specs.Failed.{stands, with_part};
 ghost use Rattle.pdb_resolving.specs.Failures.{Failures, Part, IsPart, IsPlace, has_failed};
 ghost use Rattle.pdb_resolving.specs.Failures.{number_of, with_failed};
 
-/// Once the part with that number is stored, it stands as failed; so does each that stood before,
+/// The part with that number stands as failed once it is stored; so does each that stood before,
 /// and no other.
 pub fn kept_numbers_stand()
     ensures { (failed : List ℕ) (number other : ℕ)
@@ -21,7 +21,7 @@ pub fn places_have_own_numbers()
         → number_of m p ≡ number_of n q → (m ≡ n) × (p ≡ q) }
 {}
 
-/// A part of a module that is stored stands as failed; so does each that stood before, and no
+/// A part of a module stands as failed once it is stored; so does each that stood before, and no
 /// other.
 pub fn kept_parts_stand()
     ensures kept { (f : Failures) (part : Part) → has_failed (with_failed f part) part ≡ true }

@@ -1,7 +1,7 @@
-//! How an index that leads into another module is resolved (`Resolver`). A resolver uses what gives
-//! a module's own stream, and modules' names, imports and exports, as they are read and cached. The
-//! crate also says which parts of a database could not be read when they were asked for, and what
-//! answers about types and functions fail with.
+//! The resolution of indices that lead into another module (`Resolver`). A resolver uses a provider
+//! of modules, and the modules' names, imports and exports, as they are read and cached. The crate
+//! also has the parts of a database that could not be read when they were asked for, and the errors
+//! of answers about types and functions.
 //!
 //! How a module's imports and exports are searched may change. Where an index leads
 //! (`specs/Resolving`), and which parts fail once they failed, may not.

@@ -1,4 +1,4 @@
-//! What a module exports, by its own indices.
+//! The exports of a module, by its own indices.
 
 ghost use Rattle.std.specs.Prelude.{◌≡◌, IfOk};
 ghost use Rattle.pdb_subsections.specs.Exports.{first_export};

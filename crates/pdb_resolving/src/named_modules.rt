@@ -22,14 +22,15 @@ pub struct MissingName {
 }
 
 /// The modules that names of the string table lead to, by the place of the name. Each is stored
-/// once it was found; so is from where on no name ends, and the last name that no module has.
+/// once it was found; so are the place from which on no name ends, and the last name that no module
+/// has.
 #[derive(Drop)]
 pub struct NamedModules {
     /// For the place of a name, the index of the last module with that name.
     numbers: BTreeMap<u32, usize>,
-    /// A place from which on no name ends.
+    /// The place from which on no name ends.
     unended: Option<u32>,
-    /// One such name alone, since each takes memory for its text.
+    /// The last name that no module has; one alone is stored, since each takes memory for its text.
     missing: Option<MissingName>,
 }
 

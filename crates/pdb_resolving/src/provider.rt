@@ -1,4 +1,4 @@
-//! What gives modules.
+//! Providers of modules.
 
 ghost use Rattle.std.specs.Prelude.{ℕ, Option, Result, option_map, IfErr};
 ghost use Rattle.pdb_container.specs.Fault.{Fault, Gives, Parses};
@@ -15,7 +15,7 @@ use pdb_symbols_modules::{
 };
 use std::alloc::Global;
 
-/// What a module's own stream holds.
+/// The content of a module's own stream.
 pub trait ModuleTables {
     /// The stream, with the sizes of its parts.
     ghost held: { Self → ModuleStream };
@@ -80,17 +80,17 @@ impl<'s> ModuleTables for ModuleInfo<'s> {
     }
 }
 
-/// Gives what the modules of a database hold: the same result for the same arguments, unless memory
-/// is short.
+/// A provider gives the content of the modules of a database: the same result for the same
+/// arguments, unless memory is short.
 pub trait ModuleProvider {
-    /// What a module's own stream holds.
+    /// The content of a module's own stream.
     type Info: ModuleTables;
 
-    /// What the module with that index and entry holds in its own stream, if it has one, or the
+    /// The content of the own stream of the module with that index and entry, if it has one, or the
     /// fault.
     ghost provided: { Self → ℕ → entries.Module → Result (Option ModuleStream) Fault };
 
-    /// What a module's own stream holds, by the module's index, counted from 0, and its entry;
+    /// The content of a module's own stream, by the module's index, counted from 0, and its entry;
     /// `None` where it has none.
     ///
     /// # Errors

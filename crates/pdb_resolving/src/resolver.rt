@@ -26,7 +26,7 @@ use std::alloc::{AllocError, Global};
 use std::collections::BTreeMap;
 use std::marker::Model;
 
-/// The modules of a database, by which indices are resolved that lead from one into another.
+/// The modules of a database, by which indices that lead from one into another are resolved.
 /// Imports, exports and names of modules are read and cached once they are asked for.
 #[derive(Drop)]
 pub struct Resolver<'a, 's, P: ModuleProvider> {
@@ -61,7 +61,7 @@ impl<'a, 's, P: ModuleProvider> Model for Resolver<'a, 's, P> {
       failed = record { imports = r.failed_imports; exports = r.failed_exports };
     } };
 
-    // What is cached is what reading gives, so that it shows nowhere.
+    // Each cached value is what reading gives, so that the cache shows nowhere.
     ghost invariant = { λ r. AreNames r.modules.items r.names
         × IfSome (option_map (λ t. t.now) r.string_table)
         (λ names. AreNamed names r.modules.items r.named)
@@ -70,7 +70,7 @@ impl<'a, 's, P: ModuleProvider> Model for Resolver<'a, 's, P> {
 }
 
 impl<'a, 's, P: ModuleProvider> Resolver<'a, 's, P> {
-    /// A resolver over what gives the modules, their entries in order, and the string table by
+    /// A resolver over the provider of the modules, their entries in order, and the string table by
     /// which they refer to one another, if there is one. No table stands as failed.
     pub fn new(
         alloc: Global,
@@ -101,10 +101,10 @@ impl<'a, 's, P: ModuleProvider> Resolver<'a, 's, P> {
         self.modules.as_slice()
     }
 
-    /// What an index of a type or of an id stands for in the database's table of these. The module
-    /// at `module_index`, counted from 0, has the index. Without bit 31 it stands for itself, else
-    /// for the first export of it that the module has from which it is imported. Modules are named
-    /// without regard to ASCII case, and of equal names the last counts.
+    /// The index for which an index of a type or of an id stands in the database's table of these.
+    /// The module at `module_index`, counted from 0, has the index. Without bit 31 it stands for
+    /// itself; otherwise for the first export of it in the module from which it is imported.
+    /// Modules are named without regard to ASCII case, and of equal names the last counts.
     ///
     /// # Errors
     /// The first fault of: `CantResolveCrossModuleRefWithoutStringTable`; the asking module's
@@ -139,7 +139,7 @@ impl<'a, 's, P: ModuleProvider> Resolver<'a, 's, P> {
         }
     }
 
-    /// What an index stands for that leads into another module.
+    /// The index for which an index stands that leads into another module.
     #[tactic(auto, using(crate::proofs::Ending::ends_on, crate::proofs::Ending::ends_by_given_on, crate::proofs::Ending::ends_by_error_on), unfolding(crate::specs::KeptTables::resolved_by_steps))]
     fn resolve_elsewhere(
         &mut self,
@@ -159,11 +159,12 @@ impl<'a, 's, P: ModuleProvider> Resolver<'a, 's, P> {
         self.export_of(alloc, number, local)
     }
 
-    /// What an index stands for as the module with that index imports it.
+    /// The import for which an index stands in the module with that index.
     ///
     /// # Errors
-    /// `ModuleImportsUnsuccessful` where the module's imports stand as failed, else the module's
-    /// fault or that of its imports, with this table, or `CrossModuleRefNotFound`; `OutOfMemory`.
+    /// `ModuleImportsUnsuccessful` where the module's imports stand as failed; otherwise the
+    /// module's fault or that of its imports, with this table, or `CrossModuleRefNotFound`;
+    /// `OutOfMemory`.
     #[tactic(auto, using(crate::proofs::Ending::ends_by_table_on))]
     fn import_of(
         &mut self,
@@ -205,11 +206,12 @@ impl<'a, 's, P: ModuleProvider> Resolver<'a, 's, P> {
             .number_by_reference(alloc, strings, modules, &mut self.names, name)
     }
 
-    /// What the module with that index exports first under an index as it names it.
+    /// The first export of the module with that index under an index as it names it.
     ///
     /// # Errors
-    /// `ModuleExportsUnsuccessful` where the module's exports stand as failed, else the module's
-    /// fault or that of its exports, with this table, or `LocalIndexNotInExports`; `OutOfMemory`.
+    /// `ModuleExportsUnsuccessful` where the module's exports stand as failed; otherwise the
+    /// module's fault or that of its exports, with this table, or `LocalIndexNotInExports`;
+    /// `OutOfMemory`.
     #[tactic(auto, using(crate::proofs::Ending::ends_by_table_on))]
     fn export_of(
         &mut self,
@@ -233,7 +235,7 @@ impl<'a, 's, P: ModuleProvider> Resolver<'a, 's, P> {
     }
 }
 
-/// What an index stands for by what a module imports.
+/// The import for which an index stands, from a module's imports.
 ///
 /// # Errors
 /// `CrossModuleRefNotFound`.

@@ -1,4 +1,4 @@
-//! What ends a text.
+//! Stops: the errors that end a text.
 
 ghost use Rattle.std.specs.Prelude.{◌≡◌};
 ghost use Rattle.pdb_resolving.specs.declared.error.Error.TheVariants as errors;
@@ -8,10 +8,10 @@ use crate::error::Error;
 use crate::table::Table;
 use std::alloc::{AllocError, AllocFailed};
 
-/// What a call that makes a part of a text returns, or what ends the text.
+/// The result of a call that makes a part of a text, or the stop that ends the text.
 pub type Result<T> = std::result::Result<T, Stop>;
 
-/// What ends a text.
+/// The error that ends a text.
 #[derive(Drop)]
 pub enum Stop {
     /// This error, which is no table's.

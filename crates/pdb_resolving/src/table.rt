@@ -3,8 +3,8 @@
 /// A table of the module with that index, counted from 0.
 #[derive(Clone, Copy)]
 pub enum Table {
-    /// What the module imports.
+    /// The imports of the module.
     Imports(usize),
-    /// What the module exports.
+    /// The exports of the module.
     Exports(usize),
 }

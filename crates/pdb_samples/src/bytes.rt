@@ -36,7 +36,7 @@ pub(crate) fn pad_to(bytes: &mut Vec<u8>, unit: usize) -> Result<()> {
     Ok(())
 }
 
-/// Writes, as the number at `at`, how many bytes there are from `start` on.
+/// Writes the number of bytes from `start` on, as the number at `at`.
 pub(crate) fn write_size(bytes: &mut Vec<u8>, at: usize, start: usize) -> Result<()> {
     let size = u32::try_from(bytes.len().saturating_sub(start))?;
     overwrite(bytes.as_mut_slice(), at, &size.to_le_bytes())

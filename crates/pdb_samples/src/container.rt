@@ -9,7 +9,7 @@ const MAGIC: &[u8; 32] = b"Microsoft C/C++ MSF 7.00\r\n\x1aDS\0\0\0";
 /// The size of an absent stream.
 const ABSENT: u32 = 0xffff_ffff;
 
-/// How many bytes at the start of the file a reader views first.
+/// The number of bytes at the start of a file that a reader views first.
 const FIRST_VIEW: usize = 4096;
 
 /// The streams of a file and how they lie in its pages.
@@ -19,11 +19,11 @@ pub struct Container {
     pub page_size: u32,
     /// The bytes of each stream, and `None` for an absent one.
     pub streams: Vec<Option<Vec<u8>>>,
-    /// In which order the pages lie.
+    /// The order in which the pages lie.
     pub order: PageOrder,
 }
 
-/// In which order the pages lie: list pages, then directory pages, then the streams' pages.
+/// The order in which the pages lie: list pages, then directory pages, then the streams' pages.
 #[derive(Clone, Copy)]
 pub enum PageOrder {
     /// All in the order in which they are read.
@@ -38,8 +38,8 @@ pub enum PageOrder {
     StreamLast(usize),
 }
 
-/// The last page of each part, counted from 1 in the order in which pages are read, and which of
-/// them lie elsewhere.
+/// The last page of each part, counted from 1 in the order in which pages are read, and the pages
+/// that lie in another order.
 #[derive(Clone, Copy)]
 struct Layout {
     list: u32,
@@ -91,12 +91,12 @@ impl Container {
         }
     }
 
-    /// How many pages hold `length` bytes.
+    /// The number of pages that hold `length` bytes.
     fn pages_of(&self, length: usize) -> Result<u32> {
         Ok(u32::try_from(length.div_ceil(self.page_bytes()?))?)
     }
 
-    /// How many pages the streams before this number take.
+    /// The number of pages that the streams before this number take.
     fn pages_before(&self, number: usize) -> Result<u32> {
         let mut count = 0u32;
         let mut left = number;
@@ -216,7 +216,7 @@ fn push_numbers(file: &mut Vec<u8>, layout: &Layout, before: u32, end: u32) -> R
     Ok(())
 }
 
-/// What the directory says of a stream's size.
+/// The size of a stream, as the directory has it.
 fn size_of(stream: &Option<Vec<u8>>) -> Result<u32> {
     match stream {
         Some(bytes) => Ok(u32::try_from(bytes.len())?),

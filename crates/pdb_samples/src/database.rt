@@ -9,24 +9,24 @@ use std::alloc::Global;
 /// the types, the debug information, the ids, the symbol records and the section headers.
 const FIRST_MODULE_STREAM: u16 = 7;
 
-/// How the information stream begins: the version, a signature, an age and the GUID.
+/// The first numbers of the information stream: the version, a signature, an age and the GUID.
 const INFORMATION: [u32; 7] = [20000404, 1, 1, 0, 0, 0, 0];
 
 /// The one name of a stream, after the size of all names.
 const NAMES: &[u8; 11] = b"\x07\0\0\0/names\0";
 
-/// How the names table begins, ahead of its size.
+/// The first numbers of the names table, ahead of its size.
 const NAMES_HEADER: [u32; 2] = [0xeffe_effe, 1];
 
 /// The streams of a file, and `None` for an absent one.
 type Streams = Vec<Option<Vec<u8>>>;
 
-/// A program database. After the first seven streams come those of the modules that have one, the
-/// names table, and the further streams.
+/// A program database. After the first seven streams come the streams of the modules that have one,
+/// the names table, and the further streams.
 pub struct ProgramDatabase {
     /// The size of a page, in bytes.
     pub page_size: u32,
-    /// In which order the pages lie.
+    /// The order in which the pages lie.
     pub order: PageOrder,
     /// The DBI stream, but for the modules.
     pub debug: DebugInformation,

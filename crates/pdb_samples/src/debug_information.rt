@@ -5,7 +5,7 @@ const SIGNATURE: u32 = 0xffff_ffff;
 
 const VERSION: u32 = 19990903;
 
-/// What a module's symbols begin with.
+/// The number with which a module's symbols begin.
 const SYMBOLS_SIGNATURE: u32 = 4;
 
 /// The version of contributions.
@@ -14,22 +14,22 @@ const CONTRIBUTIONS: u32 = 0xeffe_0000 + 19970605;
 /// The number that names no stream.
 pub(crate) const NO_STREAM: u16 = 0xffff;
 
-/// Where the sizes of the module list, the contributions and the optional header stand.
+/// The places of the sizes of the module list, the contributions and the optional header.
 const SIZES: [usize; 3] = [24, 28, 48];
 
 /// A module and its stream.
 pub struct Module {
-    /// Its name.
+    /// The module's name.
     pub name: Vec<u8>,
-    /// The name of its object file.
+    /// The name of the module's object file.
     pub object_name: Vec<u8>,
-    /// The records of its symbols, after the usual signature.
+    /// The records of the module's symbols, after the usual signature.
     pub symbols: Vec<u8>,
-    /// The bytes of its C11 line data.
+    /// The bytes of the module's C11 line data.
     pub c11: Vec<u8>,
-    /// The bytes of its C13 line data.
+    /// The bytes of the module's C13 line data.
     pub c13: Vec<u8>,
-    /// Whether it has a stream. Without one its entry names none, but still has the sizes.
+    /// Whether the module has a stream. Without one its entry names none, but still has the sizes.
     pub has_stream: bool,
 }
 
@@ -61,7 +61,7 @@ impl Drop for Module {
 }
 
 impl Module {
-    /// Appends what the module's stream holds.
+    /// Appends the bytes of the module's stream.
     pub(crate) fn push_stream(&self, bytes: &mut Vec<u8>) -> Result<()> {
         push_u32(bytes, &[SYMBOLS_SIGNATURE])?;
         bytes.extend_from_slice(self.symbols.as_slice())?;

@@ -1,10 +1,10 @@
 use std::alloc::{AllocError, AllocFailed};
 use std::num::TryFromIntError;
 
-/// What making a sample returns.
+/// The result of making a sample.
 pub type Result<T> = std::result::Result<T, SampleError>;
 
-/// Why a sample could not be made.
+/// The reason that a sample could not be made.
 #[derive(Debug, Clone, Copy, PartialEq, Eq)]
 pub enum SampleError {
     /// Memory ran out.

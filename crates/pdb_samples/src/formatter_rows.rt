@@ -17,7 +17,7 @@ const SITE: &[u8; 15] = b"\x04\0\0\0\0\0\0\0\0\0\0\x80\x0c\x08\0";
 /// The names: nothing at 0, `a.c` at 1, `c.obj` at 5 and `b.h` at 11.
 const NAMES: &[u8] = b"\0a.c\0c.obj\0b.h\0";
 
-/// What the second module contributes to section 1: 0x40 bytes at 0x80.
+/// The second module's contribution to section 1: 0x40 bytes at 0x80.
 const SECOND: [u32; 7] = [1, 0x80, 0x40, 0x6000_0020, 1, 0, 0];
 
 /// The checksums of the first module, in numbers of four bytes, written by hand from the format: of
@@ -28,7 +28,7 @@ const FIRST_CHECKSUMS: [u32; 6] = [
     0xf4, 0x10, 0x01, 0x00, 0x0b, 0x00,
 ];
 
-/// What comes after file F's lines in the first module: its inlinee at line 3 of `b.h`, and an
+/// The subsections after file F's lines in the first module: its inlinee at line 3 of `b.h`, and an
 /// import from `c.obj`.
 #[rattlefmt::skip]
 const FIRST_INLINEES: [u32; 11] = [
@@ -39,7 +39,7 @@ const FIRST_INLINEES: [u32; 11] = [
     0xf7, 0x0c, 0x05, 0x01, 0x8000_1000,
 ];
 
-/// The line data of the second module: a file `b.h`, its inlinee at line 4 of that, and another
+/// The line data of the second module: a file `b.h`, its inlinee at line 4 of `b.h`, and another
 /// import from `c.obj`.
 #[rattlefmt::skip]
 const SECOND_LINES: [u32; 15] = [
@@ -59,7 +59,7 @@ const EXPORTS: [u32; 6] = [
     0xf8, 0x10, 0x8000_1000, 0x1000, 0x8000_1001, 0x1001,
 ];
 
-/// No arguments, and a function of these that returns nothing.
+/// No arguments, and a function without arguments that returns nothing.
 pub(crate) const TYPES: &[Record] = &[
     Record::ArgumentList(&[]),
     Record::Procedure {

@@ -1,8 +1,8 @@
 //! Program databases made from a description in plain structs, and readers and writers that
 //! misbehave, for tests.
 //!
-//! Descriptions may have more fields. What a description that is there is written as may not
-//! change, since tests know these bytes.
+//! Descriptions may have more fields. The bytes of a description that is there may not change,
+//! since tests know them.
 #![tactic(auto)]
 
 mod bytes;

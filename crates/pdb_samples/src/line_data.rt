@@ -5,12 +5,12 @@ pub(crate) const CHECKSUMS_OF_F: [u32; 4] = [
     0xf4, 0x08, 0x01, 0x00,
 ];
 
-/// How many bytes the block of file F's lines has.
+/// The number of bytes of the block of file F's lines.
 pub(crate) const BLOCK_SIZE: u32 = 0x1c;
 
-/// The lines of file F, in numbers of four bytes, written by hand from the format: those of 0x20
-/// bytes at 0x10 of section 1, of the file at 0. Two rows at 0 and 8 of them are of lines 5 and 7.
-/// Their block says that it has `block_size` bytes.
+/// The lines of file F, in numbers of four bytes, written by hand from the format: of 0x20 bytes at
+/// 0x10 of section 1, from the file at 0. Two rows at 0 and 8 of them are of lines 5 and 7. Their
+/// block says that it has `block_size` bytes.
 #[rattlefmt::skip]
 pub(crate) fn lines_of_f(block_size: u32) -> [u32; 12] {
     [

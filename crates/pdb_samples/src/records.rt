@@ -5,7 +5,7 @@ use std::alloc::Global;
 /// The first index of a table.
 const FIRST_INDEX: u32 = 0x1000;
 
-/// How the header of a table begins: the version, the header's size and the first index.
+/// The first numbers of a table's header: the version, the header's size and the first index.
 const HEADER: [u32; 3] = [20040203, 56, FIRST_INDEX];
 
 /// The rest of the header after the size of the records: no hash stream, four-byte keys, and no
@@ -31,7 +31,7 @@ pub enum Record {
     },
 }
 
-/// The table of types or that of ids: the records with their lengths, and how many there are.
+/// The table of types or of ids: the records with their lengths, and their number.
 #[derive(Drop)]
 pub struct ItemTable {
     pub records: Vec<u8>,

@@ -34,10 +34,10 @@ const SITE: &[u8; 12] = b"\x04\0\0\0\0\0\0\0\0\x10\0\0";
 const TEXT: &[u8; 40] = b".text\0\0\0\0\x01\0\0\0\x10\0\0\0\0\0\0\0\0\0\0\
     \0\0\0\0\0\0\0\0\0\0\0\0\x20\0\0\x60";
 
-/// What module 0 contributes to section 1: its first 0x40 bytes.
+/// The contribution of module 0 to section 1: its first 0x40 bytes.
 const CODE: [u32; 7] = [1, 0, 0x40, 0x6000_0020, 0, 0, 0];
 
-/// Its second contribution, where there is one.
+/// The second contribution of module 0, where there is one.
 const SECOND: [u32; 7] = [1, 0x80, 0x10, 0x6000_0020, 0, 0, 0];
 
 /// The number of the debug information's stream.
@@ -46,7 +46,7 @@ const DEBUG_STREAM: usize = 3;
 /// The number of the first further stream, after module 0's and the names table.
 const FURTHER_STREAM: u16 = 9;
 
-/// How a file differs from file F0.
+/// The difference of a file from file F0.
 #[derive(Clone, Copy)]
 pub enum Change {
     /// None: it is file F0.
@@ -105,7 +105,7 @@ pub fn short_line_block(alloc: Global) -> Result<Vec<u8>> {
     file_with(alloc, Change::ShortLineBlock)?.bytes(alloc)
 }
 
-/// File F0 but for one thing. File F0 is file F without line data.
+/// File F0 with one change. File F0 is file F without line data.
 ///
 /// # Errors
 /// `DoesNotFit` where a place past the optional header is asked for; `OutOfMemory`.
@@ -165,7 +165,7 @@ fn debug_information(alloc: Global) -> DebugInformation {
     }
 }
 
-/// Adds what the file has, with these symbol records.
+/// Adds the parts of the file, with these symbol records.
 fn fill(
     alloc: Global,
     database: &mut ProgramDatabase,
@@ -332,8 +332,8 @@ fn push_public(records: &mut Vec<u8>, offset: u32, name: &[u8]) -> Result<()> {
     end_record(records, start)
 }
 
-/// File F0 cut a hundred bytes after its debug information begins. That comes after all else, also
-/// after a further stream of 4096 zeros. More than 4096 bytes are left.
+/// File F0 cut a hundred bytes after its debug information begins. This comes after all the rest,
+/// also after a further stream of 4096 zeros. More than 4096 bytes are left.
 ///
 /// # Errors
 /// `OutOfMemory`.

@@ -10,8 +10,8 @@ use std::alloc::Global;
 /// bytes at its procedure's start. Its end isn't known yet.
 const OUTER_SITE: &[u8; 15] = b"\x04\0\0\0\0\0\0\0\0\x10\0\0\x0c\x04\0";
 
-/// The payload of one in the record at 0x30, of the inlinee 0x1001, with one row of four bytes at 8
-/// from its procedure's start. Its end isn't known yet.
+/// The payload of an inline site in the record at 0x30, of the inlinee 0x1001, with one row of four
+/// bytes at 8 from its procedure's start. Its end isn't known yet.
 const INNER_SITE: &[u8; 15] = b"\x30\0\0\0\0\0\0\0\x01\x10\0\0\x0c\x04\x08";
 
 /// The names: nothing at 0, `a.c` at 1, `b.h` at 5 and `c.h` at 9.
@@ -32,7 +32,7 @@ const INLINEES: [u32; 9] = [
     0xf6, 0x1c, 0x00, 0x1000, 0x08, 0x03, 0x1001, 0x10, 0x09,
 ];
 
-/// File F with an inline site of `g` in `f` and one of `h` in that. The first has one row, at 0x10
+/// File F with an inline site of `g` in `f` and one of `h` in `g`. The first has one row, at 0x10
 /// of length 4, of line 3 of `b.h`; the other one at 0x18 of length 4, of line 9 of `c.h`.
 ///
 /// # Errors

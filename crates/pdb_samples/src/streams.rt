@@ -2,14 +2,14 @@ ghost use Rattle.std.specs.Prelude.{◌≤◌, length};
 
 use std::io::{self, ErrorKind, Read, Write};
 
-/// Gives its bytes in pieces, fails once if it does, gives the rest in pieces, and then its end at
-/// each call.
+/// A reader that gives its bytes in pieces, fails once if it does, gives the rest in pieces, and
+/// then its end at each call.
 #[derive(Drop)]
 pub struct PieceReader<'t> {
     /// The bytes that are still to come before the failure. A piece that has some of them has none
     /// of the rest.
     pub bytes: &'t [u8],
-    /// The bytes after it.
+    /// The bytes after the failure.
     pub rest: &'t [u8],
     /// The most bytes that a call gives.
     pub piece: usize,
@@ -17,21 +17,21 @@ pub struct PieceReader<'t> {
     pub fault: Option<ErrorKind>,
 }
 
-/// Takes bytes in pieces, up to `room` of them. Then it fails once and takes more, or it takes none
-/// at all.
+/// A writer that takes bytes in pieces, up to `room` of them. Then it fails once and takes more, or
+/// it takes none at all.
 #[derive(Drop)]
 pub struct PieceWriter {
     /// The bytes that were taken.
     pub written: Vec<u8>,
     /// The most bytes that a call takes.
     pub piece: usize,
-    /// How many bytes it still takes.
+    /// The number of bytes that the writer still takes.
     pub room: usize,
     /// The failure once there is no room, if it fails then.
     pub fault: Option<ErrorKind>,
 }
 
-/// Moves at most `most` bytes from the beginning of `from` into `to`, and returns how many.
+/// Moves at most `most` bytes from the beginning of `from` into `to`, and returns their number.
 fn give(from: &mut &[u8], to: &mut [u8], most: usize) -> usize
     ensures { result ≤ length to.new }
 {

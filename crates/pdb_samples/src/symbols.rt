@@ -15,9 +15,9 @@ const END: usize = 8;
 pub(crate) struct Procedure<'t> {
     /// The place of the record in which it lies, or 0.
     pub parent: u32,
-    /// Where its code begins in section 1, in bytes.
+    /// The place at which its code begins in section 1, in bytes.
     pub offset: u32,
-    /// How many bytes of code it has.
+    /// The number of bytes of its code.
     pub length: u32,
     /// The index of its type; 0 for none.
     pub type_index: u32,
@@ -57,7 +57,7 @@ pub(crate) fn push_end(records: &mut Vec<u8>, start: usize, kind: u16) -> Result
     push_record(records, kind, &[])
 }
 
-/// Appends a length that isn't known yet, and a kind. Returns where the record begins.
+/// Appends a length that isn't known yet, and a kind. Returns the place at which the record begins.
 pub(crate) fn begin_record(records: &mut Vec<u8>, kind: u16) -> Result<usize> {
     let start = records.len();
     push_u16(records, &[0])?;

@@ -1,6 +1,5 @@
--- Cross-module exports: by which indices a module knows what it gives, and where that stands in the
--- file's tables. The layout is that of LocalIdAndGlobalIdPair in microsoft-pdb's cvinfo.h, as the
--- pdb crate reads it.
+-- Cross-module exports: the indices as a module names them, and those in the file's tables. The
+-- layout is that of LocalIdAndGlobalIdPair in microsoft-pdb's cvinfo.h, as the pdb crate reads it.
 use Rattle.std.specs.Prelude.{◌≡◌, ◌≢◌, ℕ, ◌==◌, List, ◌∷◌, ◌++◌, map, Option, option_map, Result}
 use Rattle.std.specs.Prelude.{Ok, if◌then◌else◌}
 use Rattle.std.specs.Int.{w32}
@@ -30,7 +29,8 @@ export_at bytes = do
 abbrev pub exports_of : List ℕ → Result (List Export) Fault
 exports_of bytes = entries export_at bytes
 
--- the index in the TPI or the IPI for one as the module names it: the first export of that counts
+-- the index in the TPI or the IPI for one as the module names it: the first export of that index
+-- counts
 abbrev pub first_export : List Export → ℕ → Option ℕ
 first_export exports local = option_map (λ e. e.global) (find (λ e. e.local == local) exports)
 

@@ -1,6 +1,6 @@
--- Cross-module imports, what a module takes from other modules: of which modules, and by which
--- indices these know it. The layout is that of CrossScopeReferences in microsoft-pdb's cvinfo.h, as
--- the pdb crate reads it.
+-- Cross-module imports of a module: the modules from which it imports, and the indices of the
+-- imports as these modules name them. The layout is that of CrossScopeReferences in microsoft-pdb's
+-- cvinfo.h, as the pdb crate reads it.
 use Rattle.std.specs.Prelude.{ℕ, ◌/◌, ◌%◌, ◌^◌, List, map, slice_get, Option, option_map}
 use Rattle.std.specs.Prelude.{option_and_then, Result, Ok, ok_or}
 use Rattle.std.specs.Int.{w32, from_le_bytes}
@@ -12,13 +12,13 @@ use Rattle.pdb_container.specs.RecordFields.{many_at}
 use Rattle.pdb_subsections.specs.declared.imports.CrossModuleRef.{CrossModuleRef}
 use Rattle.pdb_subsections.specs.declared.imports.ImportedModule.{ImportedModule}
 
--- a module that is named: where its name begins among the names, and the indices there, one for
+-- a module that is named: the offset of its name among the names, and the indices there, one for
 -- each entry
 pub record Import : Type 0 where
   pub name : ℕ
   pub locals : List ℕ
 
--- a named module: the name's offset, how many indices, and these
+-- a named module: the name's offset, the number of indices, and the indices
 unfoldable pub import_at : Reader Import
 import_at bytes = do
   name ← number_at w32 bytes
@@ -30,30 +30,30 @@ import_at bytes = do
 abbrev pub imports_of : List ℕ → Result (List Import) Fault
 imports_of bytes = entries import_at bytes
 
--- which of the named modules an index into another module means, counted from 0: bits 20 to 30
+-- the named module that an index into another module means, counted from 0: bits 20 to 30
 abbrev pub module_of : ℕ → ℕ
 module_of index = index / 2 ^ 20 % 2 ^ 11
 
--- which of that module's entries an index into another module means, counted from 0: bits 0 to 19
+-- the entry of that module that an index into another module means, counted from 0: bits 0 to 19
 abbrev pub entry_of : ℕ → ℕ
 entry_of index = index % 2 ^ 20
 
--- what stands for an index elsewhere: the place of a module's name, and the index there
+-- an imported type or id: the offset of a module's name, and the index there
 pub record Imported : Type 0 where
   pub name : ℕ
   pub local : ℕ
 
--- what an entry of a module stands for
+-- the imported type or id of an entry of a module
 abbrev pub imported_from : Import → ℕ → Option Imported
 imported_from m entry = option_map (λ local. record { name = m.name; local = local })
     (slice_get m.locals entry)
 
--- what the bits of an index lead to, if there is such a module and such an entry
+-- the imported type or id of an index, by its bits, if there is such a module and such an entry
 abbrev pub found_import : List Import → ℕ → Option Imported
 found_import imports index = option_and_then (λ m. imported_from m (entry_of index))
     (slice_get imports (module_of index))
 
--- what an index stands for, which leads elsewhere by bit 31
+-- the imported type or id of an index, which leads into another module by bit 31
 abbrev pub imported : List Import → ℕ → Result Imported Fault
 imported imports index = do
   elsewhere ← guard (is_cross_module index) (NotACrossModuleRef index)

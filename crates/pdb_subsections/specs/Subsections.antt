@@ -10,7 +10,7 @@ use Rattle.pdb_container.specs.Fields.{Reader, number_at, bytes_of, padding}
 use Rattle.pdb_container.specs.Listing.{Listing, listing}
 use Rattle.pdb_subsections.specs.declared.subsection.DebugSubsection.{DebugSubsection}
 
--- what a subsection is, and its bytes
+-- a subsection's kind, and its bytes
 pub record Subsection : Type 0 where
   pub kind : ℕ
   pub bytes : List ℕ
@@ -29,11 +29,11 @@ files_kind = 0xf4
 abbrev pub inlinees_kind : ℕ
 inlinees_kind = 0xf6
 
--- what a module takes from other modules (DEBUG_S_CROSSSCOPEIMPORTS)
+-- cross-module imports (DEBUG_S_CROSSSCOPEIMPORTS)
 abbrev pub imports_kind : ℕ
 imports_kind = 0xf7
 
--- what a module gives to other modules (DEBUG_S_CROSSSCOPEEXPORTS)
+-- cross-module exports (DEBUG_S_CROSSSCOPEEXPORTS)
 abbrev pub exports_kind : ℕ
 exports_kind = 0xf8
 

@@ -1,4 +1,4 @@
-//! Cross-module exports (`DEBUG_S_CROSSSCOPEEXPORTS`): what a module gives to other modules.
+//! Cross-module exports (`DEBUG_S_CROSSSCOPEEXPORTS`): types and ids that other modules may use.
 
 ghost use Rattle.std.specs.Prelude.{◌≡◌, ◌==◌, length, map, option_map, Ok};
 ghost use Rattle.pdb_container.specs.Fault.{Parses};
@@ -41,7 +41,7 @@ impl<'a> Model for CrossModuleExports<'a> {
     ghost view = { λ e. exports_by_eight e.pairs.now };
 }
 
-/// The exports of a module that gives nothing.
+/// The exports of a module that exports nothing.
 impl<'a> Default for CrossModuleExports<'a> {
     ghost use Rattle.std.specs.Prelude.{◌≡◌, []};
 
@@ -69,7 +69,7 @@ impl<'a> CrossModuleExports<'a> {
         Ok(CrossModuleExports { pairs })
     }
 
-    /// How many cross-module exports there are.
+    /// The number of cross-module exports.
     pub fn len(&self) -> usize
         ensures { result ≡ length self.now }
     {
@@ -91,7 +91,7 @@ impl<'a> CrossModuleExports<'a> {
     }
 
     /// The index in the TPI or the IPI for an index as the module names it, by the first export of
-    /// that; `None` exactly where no export has it.
+    /// that index; `None` exactly where no export has it.
     ///
     /// # Errors
     /// None: the result is always `Ok`.

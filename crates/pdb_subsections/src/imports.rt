@@ -1,4 +1,4 @@
-//! Cross-module imports (`DEBUG_S_CROSSSCOPEIMPORTS`): what a module takes from other modules.
+//! Cross-module imports (`DEBUG_S_CROSSSCOPEIMPORTS`): types and ids of other modules.
 
 ghost use Rattle.std.specs.Prelude.{◌≡◌, map, [], option_map, slice_get};
 ghost use Rattle.std.specs.Int.{w32};
@@ -13,12 +13,12 @@ use pdb_container::{Error, ItemIndex, Local, ParseBuffer, Result, StringRef};
 use std::alloc::Global;
 use std::marker::Model;
 
-/// A module that another one names: where its name begins in the string table.
+/// A module that another one names: the start of its name in the string table.
 #[derive(Clone, Copy, Debug, PartialEq, Eq, PartialOrd, Ord, Hash)]
 pub struct ModuleRef(pub StringRef);
 
-/// A cross-module reference: what an index stands for in another module, as that module and the
-/// index as it names it.
+/// A cross-module reference, which an index stands for: another module, and the index as that
+/// module names it.
 #[derive(Clone, Copy, Debug, PartialEq, Eq, PartialOrd, Ord, Hash)]
 pub struct CrossModuleRef<I>(pub ModuleRef, pub Local<I>);
 
@@ -46,7 +46,7 @@ impl<'a> Model for CrossModuleImports<'a> {
 }
 
 impl<'a> CrossModuleImports<'a> {
-    /// The cross-module imports of a module that takes nothing.
+    /// The cross-module imports of a module that imports nothing.
     pub fn empty(alloc: Global) -> CrossModuleImports<'a>
         ensures { result ≡ [] }
     {
@@ -55,8 +55,8 @@ impl<'a> CrossModuleImports<'a> {
         }
     }
 
-    /// The cross-module imports that these bytes spell: for each module its name, how many indices,
-    /// and these, four bytes each.
+    /// The cross-module imports that these bytes spell: for each module its name, the number of
+    /// indices, and the indices, four bytes each.
     ///
     /// # Errors
     /// `UnexpectedEof` where bytes are missing; `OutOfMemory`.
@@ -67,9 +67,8 @@ impl<'a> CrossModuleImports<'a> {
         Ok(CrossModuleImports { modules })
     }
 
-    /// The cross-module reference that an index stands for: what it names in another module. Bits
-    /// 20 to 30 of the index pick the other module, and bits 0 to 19 the entry, both counted from
-    /// 0.
+    /// The cross-module reference that an index stands for. Bits 20 to 30 of the index pick the
+    /// other module, and bits 0 to 19 the entry, both counted from 0.
     ///
     /// # Errors
     /// `NotACrossModuleRef` for an index without bit 31, `CrossModuleRefNotFound` where there is no
@@ -129,7 +128,7 @@ fn parse_locals<'a>(buffer: &mut ParseBuffer<'a>, count: u32) -> Result<&'a [[u8
     Ok(locals)
 }
 
-/// What an index stands for: its module, and the index there.
+/// The module that an index stands for, and the index there.
 fn find(modules: &[ImportedModule<'_>], index: u32) -> Option<CrossModuleRef<u32>>
     ensures { option_map (reference (λ number. number)) result
         ≡ found_import (map import_in modules.now) index }
@@ -150,7 +149,7 @@ fn module_at<'m, 'a>(
     modules.get(number)
 }
 
-/// What an entry of a module stands for, counted from 0.
+/// The cross-module reference of an entry of a module, counted from 0.
 #[tactic(auto, using(crate::proofs::ImportSteps::mapped_at))]
 fn entry_at(named: &ImportedModule<'_>, entry: usize) -> Option<CrossModuleRef<u32>>
     ensures { option_map (reference (λ number. number)) result

@@ -1,6 +1,6 @@
-//! The debug subsections (C13) of a module's line data: how they lie, what a row of lines is, and
-//! the types and ids that a module takes from other modules (`DEBUG_S_CROSSSCOPEIMPORTS`) and gives
-//! to them (`DEBUG_S_CROSSSCOPEEXPORTS`). Kinds and layouts are those of microsoft-pdb's cvinfo.h
+//! The debug subsections (C13) of a module's line data, their rows of lines, and the types and ids
+//! that a module takes from other modules (`DEBUG_S_CROSSSCOPEIMPORTS`) and gives to them
+//! (`DEBUG_S_CROSSSCOPEEXPORTS`). Kinds and layouts are those of microsoft-pdb's cvinfo.h
 //! (DEBUG_S_SUBSECTION_TYPE), as the pdb crate reads them; LLVM's The Module Information Stream
 //! places them.
 //!

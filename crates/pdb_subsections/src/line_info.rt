@@ -3,7 +3,7 @@
 use pdb_addresses::PdbInternalSectionOffset;
 use pdb_container::FileIndex;
 
-/// The kind of a row: what its code was made of.
+/// The kind of a row: whether its code was made of an expression or a statement.
 #[derive(Clone, Copy, Debug, PartialEq, Eq)]
 pub enum LineInfoKind {
     /// An expression.
@@ -12,12 +12,13 @@ pub enum LineInfoKind {
     Statement,
 }
 
-/// A row of line data: which lines and columns of a file the code from a place on was made of.
+/// A row of line data: the lines and columns of a file from which the code from a place on was
+/// made.
 #[derive(Clone, Copy, Debug, PartialEq, Eq)]
 pub struct LineInfo {
-    /// Where the code begins: a section's number, counted from 1, and an offset in bytes.
+    /// The start of the code: a section's number, counted from 1, and an offset in bytes.
     pub offset: PdbInternalSectionOffset,
-    /// How many bytes of code there are, where that is known.
+    /// The number of bytes of code, where that is known.
     pub length: Option<u32>,
     /// The file, by its place among the module's checksums, in bytes.
     pub file_index: FileIndex,
@@ -29,6 +30,6 @@ pub struct LineInfo {
     pub column_start: Option<u32>,
     /// The last column, where one is given.
     pub column_end: Option<u32>,
-    /// What the code was made of.
+    /// The kind of the row.
     pub kind: LineInfoKind,
 }

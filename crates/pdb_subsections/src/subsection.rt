@@ -19,10 +19,10 @@ pub const FILE_CHECKSUMS: u32 = 0xf4;
 /// `DEBUG_S_INLINEELINES`: the kind of a subsection of inlinees.
 pub const INLINEE_LINES: u32 = 0xf6;
 
-/// `DEBUG_S_CROSSSCOPEIMPORTS`: the kind of a subsection of what is used from other modules.
+/// `DEBUG_S_CROSSSCOPEIMPORTS`: the kind of a subsection of cross-module imports.
 pub const CROSS_MODULE_IMPORTS: u32 = 0xf7;
 
-/// `DEBUG_S_CROSSSCOPEEXPORTS`: the kind of a subsection of what other modules may use.
+/// `DEBUG_S_CROSSSCOPEEXPORTS`: the kind of a subsection of cross-module exports.
 pub const CROSS_MODULE_EXPORTS: u32 = 0xf8;
 
 /// A debug subsection of C13 line data.

@@ -1,4 +1,4 @@
--- What a symbol file tells of the addresses at which code may run, and the law of two roads for it.
+-- The records and the frames of the addresses at which code may run, and their law of two roads.
 use Rattle.std.specs.Prelude.{◌≡◌, ℕ, ◌++◌, if◌then◌else◌, List, [], Option, None, Some}
 use Rattle.pdb_addresses.specs.declared.sections.ImageSectionHeader.{ImageSectionHeader}
 use Rattle.pdb_symbol_files.specs.Code.{answers_of_code, is_code}
@@ -9,7 +9,7 @@ use Rattle.pdb_symbol_files.specs.Records.{SymbolRecords, symbol_records}
 use Rattle.pdb_symbol_files.specs.RecordTexts.{functions_text, numbers_text}
 use Rattle.pdb_symbol_files.specs.Told.{Told}
 
--- the records of what is told of the addresses at which code may run
+-- the records of the answers for the addresses at which code may run
 abbrev pub records_of_code : List ImageSectionHeader → (ℕ → Option Told) → SymbolRecords
 records_of_code sections told = symbol_records (answers_of_code sections told)
 
@@ -18,11 +18,11 @@ abbrev pub shown_if : Option Told → List Shown
 shown_if None = []
 shown_if (Some told) = shown told
 
--- what is told of an address at which code may run; nothing of any other
+-- the frames that are told of an address at which code may run; none of any other address
 abbrev pub shown_at : List ImageSectionHeader → (ℕ → Option Told) → ℕ → List Shown
 shown_at sections told address = if is_code sections address then shown_if (told address) else []
 
--- what a consumer that reads a text says of an address
+-- the frames for an address, of a consumer that reads a text
 abbrev pub shown_by : List ℕ → ℕ → List Shown
 shown_by text address = lookup (records_read (read_text text)) address
 

@@ -1,10 +1,10 @@
--- What a symbol file tells of the frames at an address.
+-- The frames at an address, as a symbol file tells them.
 use Rattle.std.specs.Prelude.{ℕ, ◌++◌, List, [], ◌∷◌, Option, None, Some, unwrap_or}
 use Rattle.pdb_owners.specs.Frames.{Frame}
 use Rattle.pdb_symbol_files.specs.Texts.{told_text}
 use Rattle.pdb_symbol_files.specs.Told.{Call, Told}
 
--- the call by which the function of a frame called that of another, inlined
+-- the call by which the function of a frame called the function of another, inlined
 abbrev pub call_of : Frame → Frame → Call
 call_of caller callee = record {
   file = told_text caller.file;
@@ -12,7 +12,8 @@ call_of caller callee = record {
   callee = told_text callee.function;
 }
 
--- the inlined calls of a frame and those around it, innermost first; the outermost call comes first
+-- the inlined calls of a frame and the frames around it, innermost first; the outermost call comes
+-- first
 abbrev pub calls_over : Frame → List Frame → List Call
 calls_over f [] = []
 calls_over f (g ∷ frames) = calls_over g frames ++ call_of g f ∷ []
@@ -22,7 +23,7 @@ abbrev pub calls_of : List Frame → List Call
 calls_of [] = []
 calls_of (f ∷ frames) = calls_over f frames
 
--- the outermost of a frame and those around it
+-- the outermost of a frame and the frames around it
 abbrev pub outermost : Frame → List Frame → Frame
 outermost f [] = f
 outermost f (g ∷ frames) = outermost g frames

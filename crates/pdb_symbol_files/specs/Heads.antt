@@ -1,4 +1,4 @@
--- The text of the first records of a symbol file, which say whose it is.
+-- The text of the first records of a symbol file, which identify its database and its image.
 use Rattle.std.specs.Prelude.{ℕ, ◌-◌, ◌^◌, ◌++◌, ◌||◌, ◌==◌, false, true, List, [], ◌∷◌}
 use Rattle.std.specs.Prelude.{codes, if◌then◌else◌, Some}
 use Rattle.std.specs.Fmt.{digits, format_spec, padded_integral}
@@ -18,7 +18,7 @@ machine_name machine =
     else if (machine == 0xaa64) || (machine == 0xa641) then codes "arm64"
     else if machine == 0x1c4 then codes "arm" else codes "unknown"
 
--- what stands after the last byte of that number, or all of a text without one
+-- the bytes after the last byte of this value, or all of a text without one
 abbrev pub after_last : ℕ → List ℕ → List ℕ
 after_last byte [] = []
 after_last byte (b ∷ bytes) =

@@ -1,4 +1,4 @@
--- How a consumer of symbol files looks an address up, and the law of two roads.
+-- The lookup of an address by a consumer of symbol files, and the law of two roads.
 use Rattle.std.specs.Prelude.{◌≡◌, ℕ, ◌+◌, ◌≤◌, ◌++◌, ◌&&◌, ◌==◌, Bool, nat_lt, nat_le, List, []}
 use Rattle.std.specs.Prelude.{◌∷◌, if◌then◌else◌, Option, None, Some, codes, max, slice_get}
 use Rattle.std.specs.Prelude.{unwrap_or, zero, suc}
@@ -7,13 +7,13 @@ use Rattle.pdb_symbol_files.specs.Records.{FunctionRecord, InlineRecord, LineRec
 use Rattle.pdb_symbol_files.specs.Records.{SymbolRecords, symbol_records}
 
 -- a frame as a consumer reports it: the name of its function, its file, and its line; `??` and 0
--- for what it has not
+-- for what is missing
 pub record Shown : Type 0 where
   pub name : List ℕ
   pub file : List ℕ
   pub line : ℕ
 
--- ---- what is told
+-- ---- frames that are told
 
 -- the frames of a function and the inlined calls in it, innermost first
 abbrev pub shown_over : List ℕ → List Call → List ℕ → ℕ → List Shown
@@ -25,13 +25,13 @@ shown_over name (c ∷ calls) file line =
 abbrev pub shown : Told → List Shown
 shown t = shown_over t.function t.calls t.file t.line
 
--- what is told of an address; nothing where none of them is it
+-- the frames that are told of an address; none where no answer is for it
 abbrev pub told_at : List Answer → ℕ → List Shown
 told_at [] address = []
 told_at (a ∷ answers) address =
     if a.address == address then shown a.told else told_at answers address
 
--- ---- what a consumer says
+-- ---- a consumer's frames
 
 -- so many addresses from one on have an address among them
 abbrev pub holds : ℕ → ℕ → ℕ → Bool
@@ -53,7 +53,7 @@ line_at [] address = None
 line_at (r ∷ lines) address =
     if holds r.address r.size address then Some r else line_at lines address
 
--- of two INLINE records the one that begins later
+-- the one of two INLINE records that begins later
 abbrev pub later : InlineRecord → Option InlineRecord → Option InlineRecord
 later r None = Some r
 later r (Some s) = if nat_le r.address s.address then Some s else Some r
@@ -74,23 +74,23 @@ held address (Some r) = if holds r.address r.size address then Some r else None
 abbrev pub inline_at : List InlineRecord → ℕ → ℕ → Option InlineRecord
 inline_at inlines level address = held address (nearest level address inlines)
 
--- how many levels there are
+-- the number of levels
 abbrev pub levels_of : List InlineRecord → ℕ
 levels_of [] = 0
 levels_of (r ∷ inlines) = max (suc r.level) (levels_of inlines)
 
--- the innermost frame, by its line record
+-- the innermost frame, from its line record
 abbrev pub innermost : Numbers → List ℕ → Option LineRecord → List Shown
 innermost n name None = record { name = name; file = codes "??"; line = 0 } ∷ []
 innermost n name (Some r) =
     record { name = name; file = text_at n.files r.file; line = r.line } ∷ []
 
--- a frame that has called another one, by the record of that call
+-- a frame that has called another one, from the record of the call
 abbrev pub caller : Numbers → List ℕ → InlineRecord → Shown
 caller n name r = record { name = name; file = text_at n.files r.file; line = r.line }
 
--- the frames from a level on: without a record there, the innermost one; else those of the function
--- that was called, and the frame that called it
+-- the frames from a level on: without a record there, the innermost one; otherwise the frames of
+-- the function that was called, and the frame that called it
 abbrev pub walk_on : Numbers → List ℕ → List Shown → (List ℕ → List Shown) → Option InlineRecord
     → List Shown
 walk_on n name here further None = here

@@ -1,5 +1,5 @@
--- The same records by pieces, in the order in which the code goes over them; that they are the same
--- is proved (`piece_records` and `symbol_records`).
+-- The records of functions by pieces, in the order in which the code goes over them.
+-- `piece_records` and `symbol_records` are proved to be the same.
 use Rattle.std.specs.Prelude.{◌≡◌, ◌==◌, ◌<◌, ℕ, ◌-◌, ◌++◌, Bool, true, false, List, [], ◌∷◌}
 use Rattle.std.specs.Prelude.{if◌then◌else◌, length, max, OnOk, Option, None, Result, Some, zero, suc}
 use Rattle.std.specs.List.{flat_map, fold}
@@ -18,7 +18,7 @@ abbrev pub begun : {K : Type 0} → Piece → Option K → Option (Span K)
 begun p None = None
 begun p (Some key) = Some (record { start = p.address; end = end_of p; key = key })
 
--- what is known is the same as a span's
+-- a key is known, and is the same as a span's
 abbrev pub is_key : {K : Type 0} → (K → K → Bool) → K → Option K → Bool
 is_key same key None = false
 is_key same key (Some other) = same key other
@@ -36,7 +36,7 @@ abbrev pub ended : {K : Type 0} → Option (Span K) → Option (Span K) → List
 ended running None = option_to_list running
 ended running (Some s) = []
 
--- the span that runs after a piece: the one before it, if that goes on, else the piece's own
+-- the span that runs after a piece: the one before it, if that goes on, otherwise the piece's own
 abbrev pub next_span : {K : Type 0} → (K → K → Bool) → Option (Span K) → Piece → Option K
     → Option (Span K)
 next_span same running p known = option_or (longer same running p known) (begun p known)
@@ -74,7 +74,7 @@ line_records files [] = []
 line_records files (s ∷ rest) =
     line_record files s ∷ line_records (used files (s.key).file) rest
 
--- the files that are used after them
+-- the files that are used after the line records of spans
 abbrev pub files_after : List (List ℕ) → List (Span SourcePlace) → List (List ℕ)
 files_after files [] = files
 files_after files (s ∷ rest) = files_after (used files (s.key).file) rest
@@ -89,7 +89,7 @@ inline_records n level [] = []
 inline_records n level (s ∷ rest) =
     inline_record n level s ∷ inline_records (with_call n (s.key).call) level rest
 
--- the numbers that are given after them
+-- the numbers that are given after the records of a level's spans
 abbrev pub numbers_after : Numbers → List (Span Path) → Numbers
 numbers_after n [] = n
 numbers_after n (s ∷ rest) = numbers_after (with_call n (s.key).call) rest
@@ -101,25 +101,25 @@ level_records n level (suc count) pieces =
     inline_records n level (level_spans level pieces)
     ++ level_records (numbers_after n (level_spans level pieces)) (suc level) count pieces
 
--- the numbers after them
+-- the numbers after the INLINE records of so many levels
 abbrev pub numbers_after_levels : Numbers → ℕ → ℕ → List Piece → Numbers
 numbers_after_levels n level zero pieces = n
 numbers_after_levels n level (suc count) pieces =
     numbers_after_levels (numbers_after n (level_spans level pieces)) (suc level) count pieces
 
--- how many levels of calls pieces have
+-- the number of levels of calls that pieces have
 abbrev pub depth_of : List Piece → ℕ
 depth_of [] = 0
 depth_of (p ∷ pieces) = max (length (p.told).calls) (depth_of pieces)
 
 -- ---- functions
 
--- the last of a piece and those after it
+-- the last of a piece and the pieces after it
 abbrev pub last_of : Piece → List Piece → Piece
 last_of p [] = p
 last_of p (q ∷ pieces) = last_of q pieces
 
--- the address after the last one of a piece and those after it
+-- the address after the last one of a piece and the pieces after it
 abbrev pub end_after : Piece → List Piece → ℕ
 end_after p pieces = end_of (last_of p pieces)
 
@@ -127,7 +127,7 @@ end_after p pieces = end_of (last_of p pieces)
 abbrev pub numbers_after_inlines : Numbers → List Piece → Numbers
 numbers_after_inlines n pieces = numbers_after_levels n 0 (depth_of pieces) pieces
 
--- the record of a function's first piece and those after it
+-- the record of a function's first piece and the pieces after it
 abbrev pub group_record : Numbers → Piece → List Piece → FunctionRecord
 group_record n p pieces = record {
   address = p.address;
@@ -143,14 +143,14 @@ abbrev pub function_if : Numbers → List Piece → List FunctionRecord
 function_if n [] = []
 function_if n (p ∷ pieces) = group_record n p pieces ∷ []
 
--- the numbers after it
+-- the numbers after the record of a function's pieces
 abbrev pub numbers_after_function : Numbers → List Piece → Numbers
 numbers_after_function n pieces = record {
   files = files_after (numbers_after_inlines n pieces).files (line_spans pieces);
   origins = (numbers_after_inlines n pieces).origins;
 }
 
--- a piece goes on with the function of those before it; if there are none, it does
+-- a piece goes on with the function of the pieces before it; if there are none, it does
 abbrev pub is_more : List Piece → Piece → Bool
 is_more [] p = true
 is_more (q ∷ pieces) p = continues (last_of q pieces) p
@@ -168,7 +168,7 @@ function_records n [] = []
 function_records n (g ∷ rest) =
     function_if n g ++ function_records (numbers_after_function n g) rest
 
--- the numbers after them
+-- the numbers after the records of functions
 abbrev pub all_numbers : Numbers → List (List Piece) → Numbers
 all_numbers n [] = n
 all_numbers n (g ∷ rest) = all_numbers (numbers_after_function n g) rest
@@ -186,7 +186,7 @@ piece_records pieces = record {
 abbrev pub level_text : Numbers → ℕ → List Piece → List ℕ
 level_text n level pieces = flat_map inline_text (inline_records n level (level_spans level pieces))
 
--- those of all levels
+-- the INLINE records of all levels of pieces
 abbrev pub inlines_text : Numbers → List Piece → List ℕ
 inlines_text n pieces = flat_map inline_text (level_records n 0 (depth_of pieces) pieces)
 
@@ -194,7 +194,7 @@ inlines_text n pieces = flat_map inline_text (level_records n 0 (depth_of pieces
 abbrev pub lines_text : List (List ℕ) → List Piece → List ℕ
 lines_text files pieces = flat_map line_text (line_records files (line_spans pieces))
 
--- the FUNC record of pieces, by the first one and the last one
+-- the FUNC record of pieces, from the first one and the last one
 abbrev pub pieces_head : Piece → Piece → List ℕ
 pieces_head first last =
     head_text first.address (end_of last - first.address) (first.told).function
@@ -205,7 +205,7 @@ pieces_text n pieces = flat_map function_text (function_if n pieces)
 
 -- ---- one piece after another
 
--- the numbers and the text of the functions before the last one, and the pieces of that
+-- the numbers and the text of the functions before the last one, and the pieces of the last one
 pub record SoFar : Type 0 where
   pub numbers : Numbers
   pub last : List Piece
@@ -242,14 +242,14 @@ abbrev pub AllSome : List Piece → Type 0
 AllSome [] = Unit {0}
 AllSome (p ∷ pieces) = (0 < p.size) × AllSome pieces
 
--- the records so far are those of what is said of these addresses
+-- the records so far are the records of these answers
 pub record AreOf (s : SoFar) (answers : List Answer) : Type 0 where
   pub pieces : List Piece
   pub some : AllSome pieces
   pub of : answers ≡ answers_in pieces
   pub so_far : s ≡ fold with_piece nothing_yet pieces
 
--- records of answers are those of more of them after these were added
+-- more answers were added to the answers that records are of
 abbrev pub AddsAnswers : {E : Type 0} → SoFar → SoFar → List Answer → Result (Unit {0}) E → Type 0
 AddsAnswers old new more result =
     (answers : List Answer) → AreOf old answers → OnOk result (AreOf new (answers ++ more))

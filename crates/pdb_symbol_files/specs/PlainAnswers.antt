@@ -1,4 +1,4 @@
--- What is told has no control character, and its numbers have 64 bits at most.
+-- Plain answers: names and files without control characters, and numbers of 64 bits at most.
 use Rattle.std.specs.Prelude.{◌≡◌, ℕ, ◌++◌, map}
 use Rattle.std.specs.Prelude.{◌^◌, ◌<◌, List, length}
 use Rattle.std.specs.List.{AllByRecursion}
@@ -35,7 +35,7 @@ pub record AreReadable (answers : List Answer) : Type 0 where
   pub few : length answers < 2 ^ 64
   pub countable : AreCountable (symbol_records answers)
 
--- The law of plain records: those of such answers are plain.
+-- The law of plain records: the records of such answers are plain.
 abbrev pub MakesPlain : List Answer → Type 0
 MakesPlain answers = AreReadable answers → ArePlain (symbol_records answers)
 

@@ -1,4 +1,4 @@
--- How a consumer reads the text of a symbol file's records, and the law of reading back.
+-- The records that a consumer reads from the text of a symbol file, and the law of reading back.
 use Rattle.std.specs.Prelude.{◌≡◌, ℕ, ◌+◌, ◌^◌, ◌<◌, ◌≤◌, ◌++◌, ◌||◌, ◌==◌, Bool, List, [], ◌∷◌}
 use Rattle.std.specs.Prelude.{codes, if◌then◌else◌, length, zero, suc}
 use Rattle.std.specs.List.{AllByRecursion}
@@ -19,7 +19,7 @@ lines_after begun (b ∷ bytes) =
 abbrev pub lines_of : List ℕ → List (List ℕ)
 lines_of text = lines_after [] text
 
--- what stands before the first blank, and after it
+-- the bytes before the first blank, and after it
 abbrev pub before_blank : List ℕ → List ℕ
 before_blank [] = []
 before_blank (b ∷ bytes) = if b == 32 then [] else b ∷ before_blank bytes
@@ -28,7 +28,7 @@ abbrev pub after_blank : List ℕ → List ℕ
 after_blank [] = []
 after_blank (b ∷ bytes) = if b == 32 then bytes else after_blank bytes
 
--- what stands after so many fields
+-- the bytes after so many fields
 abbrev pub after_fields : ℕ → List ℕ → List ℕ
 after_fields zero line = line
 after_fields (suc n) line = after_fields n (after_blank line)
@@ -45,7 +45,8 @@ hexadecimal_in n line = digits_value 16 (field n line)
 
 -- ---- a line
 
--- a record, by its line; none for a line that says whose the file is, or how functions are unwound
+-- a record, from its line; none for a line that identifies the file, or says how functions are
+-- unwound
 pub data Line : Type 0 where
   FileLine : ℕ → List ℕ → Line
   OriginLine : ℕ → List ℕ → Line
@@ -94,8 +95,8 @@ pub record Numbered : Type 0 where
   pub number : ℕ
   pub text : List ℕ
 
--- What lines say: files and inlined functions with their numbers, functions with the records below
--- them, and INLINE and line records that stand before the first function.
+-- The records of lines: files and inlined functions with their numbers, functions with the records
+-- below them, and INLINE and line records that stand before the first function.
 pub record ReadRecords : Type 0 where
   pub files : List Numbered
   pub origins : List Numbered

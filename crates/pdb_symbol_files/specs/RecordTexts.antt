@@ -54,6 +54,6 @@ numbers_text r =
     numbered_texts (codes "FILE") 0 (r.numbers).files
     ++ numbered_texts (codes "INLINE_ORIGIN") 0 (r.numbers).origins
 
--- FUNC records, with those below them
+-- FUNC records, with the records below them
 unfoldable pub functions_text : SymbolRecords → List ℕ
 functions_text r = flat_map function_text r.functions

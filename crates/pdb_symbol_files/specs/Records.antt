@@ -1,4 +1,4 @@
--- The records of a module's functions, by what is said of its addresses.
+-- The records of a module's functions, from the answers for its addresses.
 use Rattle.std.specs.Prelude.{ℕ, ◌-◌, ◌++◌, ◌&&◌, Bool, List, [], ◌∷◌, map, max, length}
 use Rattle.std.specs.Prelude.{if◌then◌else◌, zero, suc}
 use Rattle.std.specs.List.{flat_map, fold, list_any, position_or_len}
@@ -83,7 +83,7 @@ pub record FunctionRecord : Type 0 where
 abbrev pub one_function : Answer → Answer → Bool
 one_function a b = is_next a b && same_function a.told b.told
 
--- how many levels of calls addresses have
+-- the number of levels of calls that addresses have
 abbrev pub levels_in : List Answer → ℕ
 levels_in [] = 0
 levels_in (a ∷ answers) = max (length (a.told).calls) (levels_in answers)
@@ -101,7 +101,7 @@ call_levels f = levels_from 0 (levels_in (members f))
 abbrev pub places : Stretch Answer → List (Span SourcePlace)
 places f = spans_of same_place place_of (members f)
 
--- the calls of a level in a function; they differ where those around them do
+-- the calls of a level in a function; they differ where the calls around them do
 abbrev pub calls : Stretch Answer → ℕ → List (Span Path)
 calls f level = spans_of same_calls (path_at level) (members f)
 
@@ -116,14 +116,14 @@ function_record n f = record {
 
 -- ---- a module
 
--- the files that the records of a function name: those of the calls, by level, then those of the
--- places
+-- the files that the records of a function name: the files of the calls, by level, then the files
+-- of the places
 abbrev pub files_in : Stretch Answer → List (List ℕ)
 files_in f =
     flat_map (λ level. map (λ s. ((s.key).call).file) (calls f level)) (call_levels f)
     ++ map (λ s. (s.key).file) (places f)
 
--- the functions that they name as inlined
+-- the functions that the records of a function name as inlined
 abbrev pub origins_in : Stretch Answer → List (List ℕ)
 origins_in f =
     flat_map (λ level. map (λ s. ((s.key).call).callee) (calls f level)) (call_levels f)
@@ -147,6 +147,6 @@ records_of functions = record {
   functions = map (function_record (numbers_of functions)) functions;
 }
 
--- the records of what is said of addresses
+-- the records of the answers for addresses
 unfoldable pub symbol_records : List Answer → SymbolRecords
 symbol_records answers = records_of (stretches one_function answers)

@@ -7,7 +7,7 @@ use Rattle.std.specs.Str.{bytes_eq}
 use Rattle.pdb_symbol_files.specs.Told.{Answer, Call, Told, same_call, same_path}
 use Rattle.pdb_symbol_files.specs.Stretches.{stretches, size_of}
 
--- addresses of which something is the same: the first one, that after the last one, and what
+-- addresses of which a key is the same: the first one, the one after the last one, and the key
 pub record Span (K : Type 0) : Type 0 where
   pub start : ℕ
   pub end : ℕ
@@ -28,7 +28,7 @@ span_if start size (Some key) =
     record { start = start; end = start + size; key = key } ∷ []
 
 -- The spans of addresses: the longest stretches of consecutive ones of which the same is known,
--- where that is something.
+-- where anything is known.
 abbrev pub spans_of : {K : Type 0} → (K → K → Bool) → (Told → Option K) → List Answer
     → List (Span K)
 spans_of same known answers =
@@ -53,7 +53,7 @@ place_of t =
 
 -- ---- paths
 
--- a call, and those around it, the outermost one first
+-- a call, and the calls around it, the outermost one first
 pub record Path : Type 0 where
   pub outer : List Call
   pub call : Call

@@ -4,12 +4,12 @@ use Rattle.std.specs.Prelude.{◌∷◌, if◌then◌else◌, Option, None, Some
 use Rattle.std.specs.Str.{chars, encode_utf8_all}
 use Rattle.std.specs.Char.{encode_utf8}
 
--- a character, where only blanks stand before it or something else: `_` for a control character,
--- and for a blank before the text
+-- a character, by whether only blanks stand before it: `_` for a control character, and for a blank
+-- before the text
 abbrev pub clean_char : Bool → ℕ → ℕ
 clean_char leading c = if nat_lt c 32 || (leading && c == 32) then 95 else c
 
--- characters, where only blanks stand before them or something else
+-- characters, by whether only blanks stand before them
 abbrev pub clean : Bool → List ℕ → List ℕ
 clean leading [] = []
 clean leading (c ∷ cs) = clean_char leading c ∷ clean (leading && c == 32) cs
@@ -28,7 +28,7 @@ shortened text =
     if nat_le (length text) 65536 then text
     else encode_utf8_all (front 65533 (chars text)) ++ codes "..."
 
--- a name or a file, by its text
+-- a name or a file, from its text
 abbrev pub text_of : List ℕ → List ℕ
 text_of [] = codes "??"
 text_of (b ∷ bs) = shortened (encode_utf8_all (clean true (chars (b ∷ bs))))

@@ -1,4 +1,4 @@
--- What a symbol file says of addresses.
+-- The answers of a symbol file for addresses.
 use Rattle.std.specs.Prelude.{ℕ, ◌+◌, ◌&&◌, ◌==◌, nat_eq, zero, suc, Bool, List, [], ◌∷◌, Option}
 use Rattle.std.specs.List.{flat_map}
 use Rattle.std.specs.Option.{option_eq}
@@ -11,8 +11,9 @@ pub record Call : Type 0 where
   pub line : ℕ
   pub callee : List ℕ
 
--- what is said of an address: where its function begins, if that is known, and its name; the
--- inlined calls, the outermost one first; file and line of the innermost frame, 0 for no line
+-- the function, the inlined calls and the place that are told of an address: the function's start,
+-- if it is known, and its name; the calls, the outermost one first; file and line of the innermost
+-- frame, 0 for no line
 pub record Told : Type 0 where
   pub start : Option ℕ
   pub function : List ℕ
@@ -20,12 +21,12 @@ pub record Told : Type 0 where
   pub file : List ℕ
   pub line : ℕ
 
--- an address, and what is said of it
+-- an address, and what is told of it
 pub record Answer : Type 0 where
   pub address : ℕ
   pub told : Told
 
--- addresses of which the same is said: the first one, and how many there are
+-- addresses of which the same is told: the first one, and their number
 pub record Piece : Type 0 where
   pub address : ℕ
   pub size : ℕ
@@ -35,7 +36,7 @@ pub record Piece : Type 0 where
 abbrev pub end_of : Piece → ℕ
 end_of p = p.address + p.size
 
--- so many addresses from one on, and what is said of each
+-- so many addresses from one on, and what is told of each
 abbrev pub answers_from : ℕ → ℕ → Told → List Answer
 answers_from address zero told = []
 answers_from address (suc size) told =

@@ -1,4 +1,4 @@
--- What is told of the addresses of ranges, and of runs; and how many pieces ranges have.
+-- The answers for the addresses of ranges, and of runs; and the number of pieces of ranges.
 use Rattle.std.specs.Prelude.{◌≡◌, ℕ, ◌+◌, ◌-◌, ◌<◌, ◌≤◌, ◌||◌, ◌==◌, Bool, true, List, Option}
 use Rattle.std.specs.List.{flat_map, sum_by}
 use Rattle.pdb_owners.specs.Counts.{how_many}
@@ -7,11 +7,11 @@ use Rattle.pdb_symbol_files.specs.declared.addresses.AddressRange.{AddressRange}
 use Rattle.pdb_symbol_files.specs.declared.told_runs.ToldRun.{ToldRun}
 use Rattle.pdb_symbol_files.specs.Told.{Answer, Told}
 
--- what is told of the addresses of a range
+-- the answers for the addresses of a range
 abbrev pub answers_of_range : (ℕ → Option Told) → AddressRange → List Answer
 answers_of_range told r = answers_along told r.start (r.end - r.start)
 
--- what is told of the addresses of ranges, one range after the other
+-- the answers for the addresses of ranges, one range after the other
 abbrev pub answers_of_ranges : (ℕ → Option Told) → List AddressRange → List Answer
 answers_of_ranges told ranges = flat_map (λ r. answers_of_range told r) ranges
 
@@ -26,11 +26,11 @@ TellsRun told address run =
 abbrev pub begins_in : (ℕ → Bool) → AddressRange → ℕ → Bool
 begins_in begins r address = (address == r.start) || begins address
 
--- how many pieces a range has
+-- the number of pieces of a range
 abbrev pub pieces_of_range : (ℕ → Bool) → AddressRange → ℕ
 pieces_of_range begins r = how_many (begins_in begins r) r.start (r.end - r.start)
 
--- how many pieces ranges have
+-- the number of pieces of ranges
 abbrev pub pieces_of_ranges : (ℕ → Bool) → List AddressRange → ℕ
 pieces_of_ranges begins ranges = sum_by (λ r. pieces_of_range begins r) ranges
 

@@ -9,7 +9,7 @@ ghost use Rattle.pdb_symbol_files.specs.Code.{in_ranges, is_in, is_within};
 use pdb_addresses::ImageSectionHeader;
 use std::alloc::{AllocError, Global};
 
-/// A range of addresses; the one at its end isn't part of it.
+/// A range of addresses; the address at its end isn't part of it.
 #[derive(Clone, Copy, Debug, PartialEq, Eq)]
 pub struct AddressRange {
     /// The first address.
@@ -87,8 +87,8 @@ fn disjoint(alloc: Global, ranges: &[AddressRange]) -> Result<Vec<AddressRange>,
 }
 
 /// The addresses at which code may run, in ascending order: ranges that have none in common. They
-/// are those of the sections in which it may, below 0xffffffff. A range begins where a section
-/// begins or ends.
+/// are the addresses of the sections in which code may run, below 0xffffffff. A range begins where
+/// a section begins or ends.
 ///
 /// # Errors
 /// `AllocError` when memory runs out.
@@ -105,7 +105,7 @@ pub fn code_ranges(
     disjoint(alloc, ranges.as_slice())
 }
 
-/// How many addresses ranges have.
+/// The number of addresses that ranges have.
 pub fn size_of_all(ranges: &[AddressRange]) -> u64 {
     let mut size: u64 = 0;
     for range in ranges {

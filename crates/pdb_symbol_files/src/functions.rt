@@ -1,4 +1,4 @@
-//! FUNC records, with what is below them.
+//! FUNC records, with the records below them.
 
 ghost use Rattle.std.specs.Prelude.{◌≡◌, [], IfOk, OnOk, List, string_bytes};
 ghost use Rattle.pdb_symbol_files.specs.Output.{IsAppended};
@@ -27,7 +27,7 @@ pub struct FunctionRecords {
     numbers: Numbers,
     /// The pieces of the last function.
     pieces: Vec<Piece>,
-    /// The text of those before it.
+    /// The text of the functions before the last.
     text: String,
 }
 
@@ -44,7 +44,7 @@ impl Model for FunctionRecords {
     } };
 }
 
-/// Whether a piece goes on with the function of those before it.
+/// Whether a piece goes on with the function of the pieces before it.
 #[tactic(auto, using(crate::proofs::LastPieces::none_more, crate::proofs::LastPieces::some_more))]
 fn is_more(pieces: &[Piece], piece: &Piece) -> bool
     ensures { result ≡ is_more_of pieces.now piece.now }
@@ -55,7 +55,7 @@ fn is_more(pieces: &[Piece], piece: &Piece) -> bool
     }
 }
 
-/// Appends the FUNC record of pieces, by the first one and the last one.
+/// Appends the FUNC record of pieces, from the first one and the last one.
 fn append_head(first: &Piece, last: &Piece, output: &mut String) -> Result<(), AllocError>
     ensures { OnOk result (IsAppended output.old output.new (pieces_head first.now last.now)) }
 {
@@ -130,7 +130,7 @@ impl FunctionRecords {
         Ok(())
     }
 
-    /// Adds a piece: what is said of its addresses, which come after all that were added.
+    /// Adds a piece, with addresses that come after all that were added.
     ///
     /// # Errors
     /// `AllocError` when memory runs out.
@@ -142,7 +142,7 @@ impl FunctionRecords {
     }
 
     /// Appends the FILE and INLINE_ORIGIN records, and returns the text of the FUNC records with
-    /// what is below them.
+    /// the records below them.
     ///
     /// # Errors
     /// `AllocError` when memory runs out.

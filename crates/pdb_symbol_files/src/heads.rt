@@ -1,4 +1,4 @@
-//! The first records of a symbol file: whose it is.
+//! The first records of a symbol file, which identify its database and its image.
 
 ghost use Rattle.std.specs.Prelude.{◌≡◌, OnOk};
 ghost use Rattle.pdb_symbol_files.specs.Output.{IsAppended};
@@ -24,7 +24,7 @@ fn machine_name(machine: u16) -> &'static str
     }
 }
 
-/// What stands after the last slash of a path.
+/// The text after the last slash of a path; all of a path without one.
 
 fn file_name(path: &str) -> &str
     ensures { result.now ≡ file_name_of path.now }

@@ -1,4 +1,4 @@
-//! INLINE records: inlined calls, over addresses where these and those around them are the same.
+//! INLINE records: inlined calls, over addresses where a call and all calls around it are the same.
 
 ghost use Rattle.std.specs.Prelude.{◌≡◌, ◌++◌, ◌∷◌, [], None, IfOk, IfSome, OnOk};
 ghost use Rattle.std.specs.Option.{option_to_list};
@@ -18,7 +18,7 @@ use crate::pieces::{Call, Piece, is_one_call};
 use std::alloc::{AllocError, Global};
 use std::marker::Model;
 
-/// An inlined call, and those around it, the outermost one first.
+/// An inlined call, and the calls around it, the outermost one first.
 #[derive(Debug, Drop)]
 pub(crate) struct Path<'p> {
     pub(crate) outer: &'p [Call],
@@ -64,7 +64,7 @@ fn path_of(piece: &Piece, level: usize) -> Option<Path<'_>>
     }
 }
 
-/// How many calls two lists begin with that are the same in both.
+/// The number of calls at the start of two lists that are the same in both.
 #[tactic(auto, using(crate::proofs::CommonPaths::one_more, crate::proofs::CommonPaths::differs, crate::proofs::CommonPaths::first_ends, crate::proofs::CommonPaths::second_ends))]
 fn common_calls(a: &[Call], b: &[Call]) -> usize
     ensures { result ≡ common_calls_of a.now b.now }
@@ -76,7 +76,7 @@ fn common_calls(a: &[Call], b: &[Call]) -> usize
     common
 }
 
-/// How many calls each piece has in common with the one before it; the first one has none.
+/// The number of calls that each piece has in common with the one before it; the first has none.
 fn commons_of(alloc: Global, pieces: &[Piece]) -> Result<Vec<usize>, AllocError>
     ensures { IfOk result (λ commons. commons.items ≡ common_with_last [] pieces.now) }
 {
@@ -104,8 +104,8 @@ fn begun<'p>(piece: &Piece, path: Option<Path<'p>>) -> Option<CallStretch<'p>>
     }
 }
 
-/// The stretch that ends before a piece, if one does, and that which runs after it. The one that
-/// runs goes on with the piece, or doesn't.
+/// The stretch that ends before a piece, if one does, and the stretch that runs after it. `goes_on`
+/// says whether `running` goes on with the piece.
 fn advanced<'p>(
     running: Option<CallStretch<'p>>,
     piece: &Piece,
@@ -146,8 +146,8 @@ fn push_if_some<'p>(
     }
 }
 
-/// The stretches of a level of a function's pieces, by how many calls each has in common with the
-/// one before it.
+/// The stretches of a level of a function's pieces, from the number of calls that each piece has in
+/// common with the one before it.
 fn stretches_of<'p>(
     alloc: Global,
     pieces: &'p [Piece],
@@ -197,7 +197,7 @@ fn append_call(
     write!(output, "INLINE {level} {line} {file} {origin} ")
 }
 
-/// Appends the addresses of an INLINE record, so many from one on, and the line's end.
+/// Appends the addresses of an INLINE record, `size` from `address` on, and the line's end.
 fn append_range(address: u32, size: u64, output: &mut String) -> Result<(), AllocError>
     ensures { OnOk result (IsAppended output.old output.new (range_text address size)) }
 {
@@ -247,7 +247,7 @@ fn append_level(
     Ok(())
 }
 
-/// How many levels of calls pieces have.
+/// The number of levels of calls that pieces have.
 #[tactic(auto, using(crate::proofs::InlineSteps::depth_more, crate::proofs::InlineSteps::depth_end))]
 fn levels_of(pieces: &[Piece]) -> usize
     ensures { result ≡ depth_in pieces.now }

@@ -10,11 +10,11 @@ ghost use Rattle.pdb_symbol_files.specs.Records.{SymbolRecords, symbol_records};
 ghost use Rattle.pdb_symbol_files.specs.Texts.{text_of};
 ghost use Rattle.pdb_symbol_files.specs.Told.{Answer, Told};
 
-/// The law of two roads: for each address, what a consumer of symbol files says by the records is
-/// what is told of it, innermost frame first; nothing where nothing is told. The consumer finds the
+/// The law of two roads: for each address, a consumer of symbol files says from the records what is
+/// told of it, innermost frame first, and nothing where nothing is told. The consumer finds the
 /// FUNC record by its range, at each level the INLINE record that begins last of those at or before
-/// the address, if its range has it, and the line record by its range. The addresses of which
-/// something is told are in ascending order.
+/// the address, if its range has the address, and the line record by its range. The addresses of
+/// which something is told are in ascending order.
 pub fn two_roads()
     ensures { (answers : List Answer) → IsAscending 0 answers → HasTwoRoads answers }
 {}
@@ -25,21 +25,22 @@ pub fn reads_back()
     ensures { (records : SymbolRecords) → ArePlain records → ReadsBack records }
 {}
 
-/// No name or file that is told has a control character, a line break among them.
+/// No name or file that is told has a control character, such as a line break.
 pub fn plain_texts()
     ensures { (text : List ℕ) → IsPlain (text_of text) }
 {}
 
 /// The law of plain records: where no name or file that is told has a control character, and fewer
-/// than 2^64 files and inlined functions are told, no record has either; so its text reads back.
+/// than 2^64 files and inlined functions are told, no record has a control character or a number of
+/// more than 64 bits; so the records' text reads back.
 pub fn plain_records()
     ensures plain { (answers : List Answer) → MakesPlain answers }
     ensures back { (answers : List Answer) → AreReadable answers
         → ReadsBack (symbol_records answers) }
 {}
 
-/// The law of two roads, by the text: for each address, what a consumer says that reads the text of
-/// the records is what is told of it, innermost frame first; nothing where nothing is told.
+/// The law of two roads, by the text: for each address, a consumer that reads the text of the
+/// records says what is told of it, innermost frame first, and nothing where nothing is told.
 pub fn text_roads()
     ensures { (answers : List Answer) → IsAscending 0 answers → AreReadable answers
         → HasTextRoads answers }
@@ -47,7 +48,7 @@ pub fn text_roads()
 
 /// The law of two roads, of the addresses at which code may run: a consumer that reads the text of
 /// their records says of each address what is told of it, and nothing of any other, if the text
-/// reads back. That of [`append_functions`](crate::append_functions) does.
+/// reads back. The text of [`append_functions`](crate::append_functions) does.
 pub fn code_roads()
     ensures { (sections : List ImageSectionHeader) (told : ℕ → Option Told)
         → ReadsBack (records_of_code sections told) → HasCodeRoads sections told }

@@ -1,12 +1,12 @@
 //! Symbol files, which crash reporters read in place of a program database: the records of a module
-//! by what its database answers for each address, and the text of these records.
+//! from its database's answers for each address, and the text of these records.
 //!
 //! | to | call |
 //! |---|---|
 //! | say an answer as a symbol file does | [`told_of`] |
 //! | make the records of a module's functions | [`FunctionRecords`] |
-//! | make those of all addresses at which code may run | [`append_functions`], by a [`ToldRuns`] |
-//! | make the lines before them | [`append_module`], [`append_code_id`] |
+//! | make records of all addresses where code may run | [`append_functions`], from a [`ToldRuns`] |
+//! | make the lines before these records | [`append_module`], [`append_code_id`] |
 //! | write a text | [`write_text`], [`write_bytes`] |
 //!
 //! The laws are [`laws::two_roads`], that looking an address up in the records gives what is told

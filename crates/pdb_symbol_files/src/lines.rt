@@ -1,4 +1,4 @@
-//! Line records: where the innermost frame stands, over addresses where that is the same.
+//! Line records: the place of the innermost frame, over addresses where it is the same.
 
 ghost use Rattle.std.specs.Prelude.{◌≡◌, ◌++◌, ◌∷◌, [], None, IfOk, OnOk};
 ghost use Rattle.std.specs.Option.{option_to_list};
@@ -90,7 +90,7 @@ fn begun<'p>(piece: &Piece, place: Option<SourcePlace<'p>>) -> Option<LineStretc
     }
 }
 
-/// The stretch that ends before a piece, if one does, and that which runs after it.
+/// The stretch that ends before a piece, if one does, and the stretch that runs after it.
 fn advanced<'p>(
     running: Option<LineStretch<'p>>,
     piece: &Piece,

@@ -1,4 +1,4 @@
-//! How the text of a symbol file is written.
+//! Writing of a symbol file's text, up to the first failure.
 
 ghost use Rattle.std.specs.Prelude.{OnErr, OnOk};
 ghost use Rattle.std.specs.Io.KnownBytes.{Appends};
@@ -9,7 +9,7 @@ use std::io::{ErrorKind, Write};
 /// Writes all of some bytes, and stops at the first failure.
 ///
 /// # Errors
-/// The kind of that failure; a prefix of the bytes was written.
+/// The kind of the failure; a prefix of the bytes was written.
 pub fn write_bytes<W: Write>(bytes: &[u8], output: &mut W) -> Result<(), ErrorKind>
     ensures ok { OnOk result (Appends (W.contents output.old) (W.contents output.new) bytes.now) }
     ensures part { OnErr result
@@ -29,7 +29,7 @@ pub fn write_bytes<W: Write>(bytes: &[u8], output: &mut W) -> Result<(), ErrorKi
 /// Writes all of a text, and stops at the first failure.
 ///
 /// # Errors
-/// The kind of that failure; a prefix of the text was written.
+/// The kind of the failure; a prefix of the text was written.
 pub fn write_text<W: Write>(text: &str, output: &mut W) -> Result<(), ErrorKind>
     ensures ok { OnOk result (Appends (W.contents output.old) (W.contents output.new) text.now) }
     ensures part { OnErr result

@@ -6,12 +6,12 @@ ghost use Rattle.pdb_symbol_files.specs.Told.{same_call as is_same_call};
 
 use std::marker::Model;
 
-/// An inlined call: what was called, and where.
+/// An inlined call: the function that was called, and the place of the call.
 #[derive(Debug, Drop)]
 pub struct Call {
-    /// The source file of the place from which was called.
+    /// The source file of the place of the call.
     pub file: String,
-    /// The line of that place, counted from 1; 0 if it isn't known.
+    /// The line of this place, counted from 1; 0 if it isn't known.
     pub line: u32,
     /// The name of the function that was called.
     pub callee: String,
@@ -30,10 +30,10 @@ impl Model for Call {
     } };
 }
 
-/// What a symbol file tells of an address.
+/// The function, the inlined calls and the place that a symbol file tells of an address.
 #[derive(Debug, Drop)]
 pub struct Told {
-    /// The address at which the function begins, if that is known.
+    /// The address at which the function begins, if it is known.
     pub start: Option<u32>,
     /// The function's name.
     pub function: String,
@@ -65,9 +65,9 @@ impl Model for Told {
 pub struct Piece {
     /// The first address, in bytes from the image's start.
     pub address: u32,
-    /// How many addresses it has.
+    /// The number of its addresses.
     pub size: u32,
-    /// What is said of each of them.
+    /// The answer for each of these addresses.
     pub told: Told,
 }
 
@@ -86,7 +86,8 @@ fn is_one_function(a: &Told, b: &Told) -> bool
     a.start == b.start && a.function.as_str() == b.function.as_str()
 }
 
-/// Whether a piece goes on with the function of the one before it: it begins where that ends.
+/// Whether a piece goes on with the function of the one before it: it begins where the one before
+/// ends.
 pub(crate) fn goes_on(before: &Piece, piece: &Piece) -> bool
     ensures { result ≡ continues before.now piece.now }
 {

@@ -8,16 +8,16 @@ ghost use Rattle.pdb_symbol_files.specs.Texts.{told_text as told_text_of};
 
 use std::alloc::{AllocError, Global};
 
-/// The text of what isn't known.
+/// The text of a name or a file that isn't known.
 const UNKNOWN: &str = "??";
 
-/// How many bytes a text has at most.
+/// The largest number of bytes of a text.
 const LONGEST: usize = 65_536;
 
-/// How many bytes of a longer text stay, before three dots.
+/// The number of bytes of a longer text that stay, before three dots.
 const KEPT: usize = 65_533;
 
-/// A character as a symbol file has it, where only blanks stand before it or something else.
+/// A character as a symbol file has it: `leading` says whether only blanks stand before it.
 fn clean_char(leading: bool, character: char) -> char
     ensures { result ≡ clean_char_of leading character }
 {
@@ -28,7 +28,8 @@ fn clean_char(leading: bool, character: char) -> char
     }
 }
 
-/// Whether only blanks stand before what follows a character, where they do before it or don't.
+/// Whether only blanks stand before the text after a character: `leading` says whether they do
+/// before the character.
 fn still_leading(leading: bool, character: char) -> bool
     ensures { result ≡ (leading && character == 32) }
 {

@@ -1,4 +1,4 @@
-//! What a symbol file says of an answer.
+//! Answers, as a symbol file tells them.
 
 ghost use Rattle.std.specs.Prelude.{◌≡◌, ◌<◌, ◌^◌, IfOk, IfSome, length, string_bytes};
 ghost use Rattle.std.specs.List.{AllByRecursion};
@@ -34,7 +34,7 @@ fn file_of(alloc: Global, frame: &Frame<'_>) -> Result<String, AllocError>
     }
 }
 
-/// The call by which a frame's function called that of another, inlined.
+/// The call by which a frame's function called the function of another, inlined.
 fn call_of(alloc: Global, caller: &Frame<'_>, callee: &Frame<'_>) -> Result<Call, AllocError>
     ensures is { IfOk result (λ call. call ≡ call_in caller.now callee.now) }
     ensures plain { IfOk result IsPlainCall }
@@ -64,9 +64,9 @@ fn calls_of(alloc: Global, frames: &[Frame<'_>]) -> Result<Vec<Call>, AllocError
     Ok(calls)
 }
 
-/// What a symbol file says of frames, innermost first, in a function that begins at an address, if
-/// that is known; `None` of no frames. No name or file has a control character, a line break among
-/// them.
+/// Returns what a symbol file tells of frames, innermost first, in a function that begins at an
+/// address, if it is known; `None` for no frames. No name or file has a control character, such as
+/// a line break.
 ///
 /// # Errors
 /// `AllocError` when memory runs out.

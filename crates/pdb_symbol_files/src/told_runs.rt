@@ -1,4 +1,4 @@
-//! What is told of the addresses of an image, run by run.
+//! The addresses of an image with what is told of them, run by run.
 
 ghost use Rattle.std.specs.Prelude.{◌≡◌, ◌+◌, ◌*◌, ◌<◌, ◌≤◌, [], ℕ, Bool, IfOk, IfSome, List, OnOk};
 ghost use Rattle.std.specs.Prelude.{Option};
@@ -22,21 +22,21 @@ use pdb_addresses::ImageSectionHeader;
 use std::alloc::{AllocError, Global};
 use std::io::ErrorKind;
 
-/// What is told of so many addresses from one on.
+/// A run of addresses, with what is told of them.
 #[derive(Debug, Drop)]
 pub struct ToldRun {
-    /// What is told of each of them, if anything is.
+    /// The answer that is told of each address, if there is one.
     pub told: Option<Told>,
-    /// How many addresses it is told of.
+    /// The number of addresses.
     pub count: u32,
 }
 
-/// Why it isn't known what is told of an address.
+/// The fault that leaves unknown what is told of an address.
 #[derive(Debug, Drop)]
 pub enum ToldFault {
     /// Out of memory.
     OutOfMemory,
-    /// The database's file couldn't be read, with that kind.
+    /// The database's file couldn't be read, with this kind.
     File(ErrorKind),
 }
 
@@ -46,18 +46,18 @@ impl From<AllocError> for ToldFault {
     }
 }
 
-/// Tells what a symbol file says of addresses, run by run.
+/// A value that tells what a symbol file says of addresses, run by run.
 pub trait ToldRuns {
-    // Whether what is told is known. That may be lost, and is never gained: fewer files agree with
+    // Whether what is told is known. This may be lost, and is never gained: fewer files agree with
     // more of a file's bytes.
     ghost known: { Self → Type 0 };
-    // what is told of an address, where that is known
+    // what is told of an address, where it is known
     ghost told: { Self → ℕ → Option ToldOf };
-    // the bytes of the file by which it is told
+    // the bytes of the file from which it is told
     ghost file: { Self → List ℕ };
-    // at which addresses a piece may begin: something else may be told than of the one before
+    // the addresses at which a piece may begin: there the answer may differ from the one before
     ghost begins: { Self → ℕ → Bool };
-    // how often something was looked up
+    // the number of lookups
     ghost lookups: { Self → ℕ };
 
     /// Makes ready for so many addresses, before the first of them is asked for. Nothing that is
@@ -70,7 +70,8 @@ pub trait ToldRuns {
         ensures lookups { lookups self.new ≡ lookups self.old }
     {}
 
-    /// What is told of an address, and over how many from there on, before `end`, the same is.
+    /// Returns what is told of an address, and the number of addresses from there on, before `end`,
+    /// of which the same is told.
     ///
     /// # Errors
     /// `File` where the database's file couldn't be read; `OutOfMemory`.
@@ -79,7 +80,7 @@ pub trait ToldRuns {
         ensures some { IfOk result (λ run. 1 ≤ run.count) }
         ensures within { IfOk result (λ run. address + run.count ≤ end) }
         ensures told { known self.new → IfOk result (TellsRun (told self.old) address) }
-        // No name or file has a control character, a line break among them.
+        // No name or file has a control character, such as a line break.
         ensures plain { IfOk result (λ run. IfSome run.told IsPlainTold) }
         ensures grows { known self.new → known self.old }
         // Asking changes nothing that is told.
@@ -161,10 +162,10 @@ fn records_of_ranges<R: ToldRuns>(
 }
 
 /// Appends the FILE and INLINE_ORIGIN records of what is told of the addresses at which code may
-/// run, by the image's section headers, and returns the text of the FUNC records with what is below
-/// them. A consumer reads both texts back as these records; so it says of each address what is told
-/// of it, and nothing of any other, by the law [`code_roads`](crate::laws::code_roads). Places are
-/// looked up at most twice for each piece of these addresses.
+/// run, by the image's section headers, and returns the text of the FUNC records with the records
+/// below them. A consumer reads both texts back as these records; so it says of each address what
+/// is told of it, and nothing of any other, by the law [`code_roads`](crate::laws::code_roads).
+/// Places are looked up at most twice for each piece of these addresses.
 ///
 /// # Errors
 /// `File` where the database's file couldn't be read; `OutOfMemory`.

@@ -45,7 +45,7 @@ with_length_at bytes = do
   offset ← compressed_at length.1
   Ok (kinds.ChangeCodeLengthAndCodeOffset length.0 offset.0, offset.1)
 
--- what follows an opcode that is no end
+-- the annotation after an opcode that is no end
 unfoldable pub behind_opcode : ℕ → Reader BinaryAnnotation
 behind_opcode opcode bytes =
     if opcode == 12 then with_length_at bytes
@@ -58,13 +58,13 @@ annotation_or_end bytes = do
   opcode ← compressed_at bytes
   if opcode.0 == 0 then Ok (None, opcode.1) else as_value Some (behind_opcode opcode.0 opcode.1)
 
--- what stands before the first end, whatever follows it
+-- the values before the first end, whatever follows it
 abbrev pub until_end : {A : Type 0} → Option Fault → List (Option A) → Listing A
 until_end fault [] = ending fault
 until_end fault (None ∷ others) = ending None
 until_end fault (Some x ∷ others) = before x (until_end fault others)
 
--- the binary annotations that bytes spell, and how they end
+-- the binary annotations that bytes spell, and the end of their list
 unfoldable pub annotations_of : List ℕ → Listing BinaryAnnotation
 annotations_of bytes = until_end (listing annotation_or_end bytes).fault
     (listing annotation_or_end bytes).items

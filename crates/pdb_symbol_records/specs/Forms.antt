@@ -1,4 +1,4 @@
--- What a symbol says, with the bytes of its name in place of where they lie.
+-- The form of a symbol: its fields, with the bytes of its name instead of a reference to them.
 use Rattle.std.specs.Prelude.{ℕ, List, Bool, Option}
 use Rattle.pdb_container.specs.RawString.{raw_bytes}
 use Rattle.pdb_container.specs.declared.index.IdIndex.{IdIndex}
@@ -16,7 +16,7 @@ use Rattle.pdb_symbol_records.specs.declared.symbol_data.SeparatedCodeSymbol.{Se
 use Rattle.pdb_symbol_records.specs.declared.symbol_data.SymbolData.{SymbolData}
 use Rattle.pdb_symbol_records.specs.declared.symbol_data.SymbolData.TheVariants as symbols
 
--- a public symbol (S_PUB32): flags, the place of what it names, and its name
+-- a public symbol (S_PUB32): flags, the place that it names, and its name
 pub record PublicForm : Type 0 where
   pub code : Bool
   pub function : Bool
@@ -58,7 +58,7 @@ pub record InlineSiteForm : Type 0 where
   pub invocations : Option ℕ
   pub annotations : List ℕ
 
--- what a symbol says
+-- the form of a symbol
 pub data SymbolForm : Type 0 where
   Public : PublicForm → SymbolForm
   Procedure : ProcedureForm → SymbolForm
@@ -69,7 +69,7 @@ pub data SymbolForm : Type 0 where
   ProcedureEnd : SymbolForm
   InlineSiteEnd : SymbolForm
 
--- what the value of a public symbol says
+-- the form of a public symbol's value
 abbrev pub public_form : PublicSymbol → PublicForm
 public_form s =
     record {
@@ -81,7 +81,7 @@ public_form s =
       name = raw_bytes s.name;
     }
 
--- what a procedure's value says
+-- the form of a procedure's value
 abbrev pub procedure_form : ProcedureSymbol → ProcedureForm
 procedure_form s =
     record {
@@ -99,7 +99,7 @@ procedure_form s =
       name = raw_bytes s.name;
     }
 
--- what a thunk's value says
+-- the form of a thunk's value
 abbrev pub thunk_form : ThunkSymbol → ThunkForm
 thunk_form s =
     record {
@@ -112,7 +112,7 @@ thunk_form s =
       name = raw_bytes s.name;
     }
 
--- what an inlined call's value says
+-- the form of an inlined call's value
 abbrev pub inline_site_form : InlineSiteSymbol → InlineSiteForm
 inline_site_form s =
     record {
@@ -123,7 +123,7 @@ inline_site_form s =
       annotations = annotation_bytes s.annotations;
     }
 
--- what a symbol's value says
+-- the form of a symbol's value
 abbrev pub symbol_form : SymbolData → SymbolForm
 symbol_form (symbols.Public s) = Public (public_form s)
 symbol_form (symbols.Procedure s) = Procedure (procedure_form s)

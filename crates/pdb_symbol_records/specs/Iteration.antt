@@ -13,23 +13,23 @@ pub record SymbolIteration : Type 0 where
 abbrev pub iteration_at : List ℕ → ℕ → SymbolIteration
 iteration_at bytes place = record { bytes = bytes; place = place }
 
--- what is found next, and the place after it
+-- the symbol that is found next, and the place after it
 abbrev pub found_next : SymbolIteration → Result (Option (Symbol × ℕ)) Fault
 found_next it = next it.bytes it.place
 
--- the symbol alone
+-- the symbol that was found, without the place after it
 abbrev pub symbol_of : Result (Option (Symbol × ℕ)) Fault → Result (Option Symbol) Fault
 symbol_of (Ok (Some found)) = Ok (Some found.0)
 symbol_of (Ok None) = Ok None
 symbol_of (Err e) = Err e
 
--- What is still to come after a step: what follows the symbol; after none and after a fault, what
--- follows the list's end.
+-- The iteration after a step: it stands after the symbol; after none and after a fault it stands at
+-- the list's end.
 abbrev pub symbols_behind : List ℕ → Result (Option (Symbol × ℕ)) Fault → SymbolIteration
 symbols_behind bytes (Ok (Some found)) = iteration_at bytes found.1
 symbols_behind bytes (Ok None) = iteration_at bytes (length bytes)
 symbols_behind bytes (Err e) = iteration_at bytes (length bytes)
 
--- the symbols that are still to come, and how they end
+-- the symbols that are still to come, and the end of their list
 abbrev pub symbols_left : SymbolIteration → Listing Symbol
 symbols_left it = symbols_from it.bytes it.place

@@ -20,7 +20,7 @@ others_at first bytes = do
   fourth ← number_at w8 third.1
   Ok (first % 2 ^ 5 * 2 ^ 24 + second.0 * 2 ^ 16 + third.0 * 2 ^ 8 + fourth.0, fourth.1)
 
--- what follows a first byte, which says how many bytes there are
+-- the number after a first byte, which states the number of bytes
 abbrev pub behind_first : ℕ → Reader ℕ
 behind_first first bytes =
     if nat_lt first 0x80 then Ok (first, bytes)

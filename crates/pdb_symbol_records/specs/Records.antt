@@ -34,8 +34,8 @@ name_behind kind front bytes = do
 
 -- ---- forms
 
--- what the bytes before a public symbol's name say, by the places of their numbers: flags, and a
--- place
+-- the form of a public symbol, by the places of the numbers in the bytes before its name: flags,
+-- and a place
 abbrev pub public_in : List ℕ → List ℕ → PublicForm
 public_in bytes name = record {
   code = has_bit (word_at bytes 0) 1;
@@ -52,8 +52,8 @@ public_of kind bytes = do
   name ← name_behind kind 10 bytes
   Ok (public_in bytes name)
 
--- What a procedure's kind and the bytes before its name say, by the places of their numbers:
--- indices, length, debug offsets, type, place, and flags.
+-- The form of a procedure, from its kind and by the places of the numbers in the bytes before its
+-- name: indices, length, debug offsets, type, place, and flags.
 abbrev pub procedure_in : ℕ → List ℕ → List ℕ → ProcedureForm
 procedure_in kind bytes name = record {
   global = is_global kind;
@@ -76,8 +76,8 @@ procedure_symbol_at kind bytes = do
   name ← name_behind kind 35 bytes
   Ok (procedure_in kind bytes name)
 
--- What the bytes before a thunk's name say, by the places of their numbers: indices, a place, the
--- length in bytes, and the kind of thunk.
+-- The form of a thunk, by the places of the numbers in the bytes before its name: indices, a place,
+-- the length in bytes, and the kind of thunk.
 abbrev pub thunk_in : List ℕ → List ℕ → ThunkForm
 thunk_in bytes name = record {
   parent = index_of (word_at bytes 0);
@@ -95,8 +95,8 @@ thunk_of kind bytes = do
   name ← name_behind kind 21 bytes
   Ok (thunk_in bytes name)
 
--- What separated code says, by the places of its numbers: indices, the length, flags, and two
--- places, of which both offsets stand before both sections.
+-- Separated code, by the places of its numbers: indices, the length, flags, and two places, of
+-- which both offsets stand before both sections.
 abbrev pub separated_code_in : List ℕ → SeparatedCodeSymbol
 separated_code_in bytes = record {
   parent = index_of (word_at bytes 0);
@@ -113,16 +113,16 @@ separated_code_of bytes = do
   whole ← refuse (nat_lt (length bytes) 28) UnexpectedEof
   Ok (separated_code_in bytes)
 
--- how many bytes of an inlined call stand before its annotations: S_INLINESITE2 has 4 more
+-- the number of bytes of an inlined call before its annotations: S_INLINESITE2 has 4 more
 abbrev pub inline_site_front : ℕ → ℕ
 inline_site_front kind = if kind == 0x115d then 16 else 12
 
--- how often an inlined call is called, which S_INLINESITE2 alone says
+-- the number of invocations of an inlined call, which S_INLINESITE2 alone states
 abbrev pub invocations_in : ℕ → List ℕ → Option ℕ
 invocations_in kind bytes = if kind == 0x115d then Some (word_at bytes 12) else None
 
--- What an inlined call says, by the places of its numbers: indices, the inlinee, how often it is
--- called, and the annotations, which go to the record's end.
+-- The form of an inlined call, by the places of its numbers: indices, the inlinee, the number of
+-- invocations, and the annotations, which go to the record's end.
 abbrev pub inline_site_in : ℕ → List ℕ → InlineSiteForm
 inline_site_in kind bytes = record {
   parent = index_of (word_at bytes 0);
@@ -132,7 +132,7 @@ inline_site_in kind bytes = record {
   annotations = drop (inline_site_front kind) bytes;
 }
 
--- S_INLINESITE, S_INLINESITE2: what stands before the annotations is all there
+-- S_INLINESITE, S_INLINESITE2: the bytes before the annotations are all there
 unfoldable pub inline_site_of : ℕ → List ℕ → Result InlineSiteForm Fault
 inline_site_of kind bytes = do
   whole ← refuse (nat_lt (length bytes) (inline_site_front kind)) UnexpectedEof
@@ -140,7 +140,7 @@ inline_site_of kind bytes = do
 
 -- ---- the form of a kind
 
--- a form that was read, as what a symbol says
+-- a form that was read, as the form of a symbol
 abbrev pub as_form : {A : Type 0} → (A → SymbolForm) → Result A Fault → Result SymbolForm Fault
 as_form make read = read >>= λ form. Ok (make form)
 
@@ -152,7 +152,7 @@ end_form kind =
     else (if kind == 0x114e then Ok forms.InlineSiteEnd
     else Err (UnimplementedSymbolKind kind)))
 
--- what a symbol of a kind says, by the bytes after the kind
+-- the form of a symbol of a kind, from the bytes after the kind
 unfoldable pub form_of : ℕ → List ℕ → Result SymbolForm Fault
 form_of kind bytes =
     if is_public kind then as_form forms.Public (public_of kind bytes)
@@ -162,6 +162,6 @@ form_of kind bytes =
     else (if is_inline_site kind then as_form forms.InlineSite (inline_site_of kind bytes)
     else end_form kind))))
 
--- what a symbol says
+-- the form of a symbol, from its bytes
 unfoldable pub symbol_form_of : Symbol → Result SymbolForm Fault
 symbol_form_of s = form_of (kind_of s) (payload_of s)

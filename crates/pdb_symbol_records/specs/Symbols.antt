@@ -1,4 +1,4 @@
--- Lists of symbols: what stands at a place of their bytes, and the symbols from a place on.
+-- Lists of symbols: the one at a place of their bytes, and the symbols from a place on.
 -- The layout is that of LLVM's CodeView Symbol Records, as the pdb crate reads it.
 use Rattle.std.specs.Prelude.{◌≡◌, ℕ, zero, suc, ◌+◌, ◌≤◌, List, length, take, drop, false, nat_lt}
 use Rattle.std.specs.Prelude.{nat_le, if◌then◌else◌, Option, None, Some, Result, Ok, Err}
@@ -8,7 +8,7 @@ use Rattle.pdb_container.specs.Fields.{number_at, bytes_of}
 use Rattle.pdb_container.specs.Listing.{Listing, before, ending}
 use Rattle.pdb_symbol_records.specs.Kinds.{is_padding}
 
--- a symbol: the byte place of its length in its list, and what follows the length
+-- a symbol: the byte place of its length in its list, and the bytes after the length
 pub record Symbol : Type 0 where
   pub index : ℕ
   pub bytes : List ℕ
@@ -17,11 +17,11 @@ pub record Symbol : Type 0 where
 abbrev pub kind_of : Symbol → ℕ
 kind_of s = from_le_bytes w16 (take 2 s.bytes)
 
--- a symbol's payload: what follows its kind
+-- a symbol's payload: the bytes after its kind
 abbrev pub payload_of : Symbol → List ℕ
 payload_of s = drop 2 s.bytes
 
--- what stands at a place, and the place after it: a length in two bytes, at least 2, and that many
+-- the symbol at a place, and the place after it: a length in two bytes, at least 2, and that many
 -- bytes
 unfoldable pub symbol_at : List ℕ → ℕ → Result (Symbol × ℕ) Fault
 symbol_at bytes place = do
@@ -30,7 +30,7 @@ symbol_at bytes place = do
   body ← bytes_of size.0 size.1
   Ok (record { index = place; bytes = body.0 }, place + 2 + size.0)
 
--- a symbol that was read; or, after what lies between symbols, what is found from there on
+-- a symbol that was read; or, after padding between symbols, the symbol that is found from there on
 abbrev pub found_or : (ℕ → Result (Option (Symbol × ℕ)) Fault) → Symbol × ℕ
     → Result (Option (Symbol × ℕ)) Fault
 found_or further read = if is_padding (kind_of read.0) then further read.1 else Ok (Some read)
@@ -46,8 +46,8 @@ next_within (suc steps) bytes place =
 unfoldable pub next : List ℕ → ℕ → Result (Option (Symbol × ℕ)) Fault
 next bytes place = next_within (length bytes) bytes place
 
--- What is found from a place on, by what stands there: none at the end and past it; a fault; a
--- symbol; or, after what lies between symbols, what is found from there on.
+-- The symbol that is found from a place on, by the symbol there: none at the end and past it; a
+-- fault; a symbol; or, after padding between symbols, the symbol that is found from there on.
 abbrev pub next_by_step : List ℕ → ℕ → Result (Option (Symbol × ℕ)) Fault
 next_by_step bytes place =
     if nat_le (length bytes) place then Ok None
@@ -66,17 +66,17 @@ symbols_within zero bytes place = ending None
 symbols_within (suc steps) bytes place =
     symbol_before (symbols_within steps bytes) (next bytes place)
 
--- The symbols from a place on in their order, and how they end.
+-- The symbols from a place on in their order, and the end of their list.
 unfoldable pub symbols_from : List ℕ → ℕ → Listing Symbol
 symbols_from bytes place = symbols_within (length bytes) bytes place
 
--- what a symbol is that was found from a place on
+-- a symbol that was found from a place on
 pub record IsFound (bytes : List ℕ) (place : ℕ) (s : Symbol) (behind : ℕ) : Type 0 where
-  -- it stands there or later
+  -- the symbol stands there or later
   pub past : place ≤ s.index
-  -- it is what stands at its index
+  -- it is the symbol at its index
   pub stands : symbol_at bytes s.index ≡ Ok (s, behind)
-  -- and doesn't lie between symbols
+  -- and is no padding between symbols
   pub is_symbol : is_padding (kind_of s) ≡ false
   -- it begins with its kind
   pub long : 2 ≤ length s.bytes

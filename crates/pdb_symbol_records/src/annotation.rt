@@ -10,8 +10,8 @@ ghost use Rattle.pdb_symbol_records.specs.Numbers.{signed_of, second_at, others_
 use pdb_container::{Error, FileIndex, ParseBuffer, Result};
 
 /// A binary annotation: a step of the list that says where an inlined call's code lies, and from
-/// which lines it was made. Three kinds of them give a row of what all steps up to it say. Offsets
-/// and lengths are in bytes.
+/// which lines it was made. Three kinds of them give a row, from all steps up to it. Offsets and
+/// lengths are in bytes.
 #[derive(Clone, Copy, Debug, PartialEq, Eq)]
 pub enum BinaryAnnotation {
     /// Opcode 1: the code's offset is this one.
@@ -26,7 +26,7 @@ pub enum BinaryAnnotation {
     ChangeFile(FileIndex),
     /// Opcode 6: the line moves by so much.
     ChangeLineOffset(i32),
-    /// Opcode 7: how many lines after the first one the last one lies.
+    /// Opcode 7: the distance in lines from the first line to the last one.
     ChangeLineEndDelta(u32),
     /// Opcode 8: the rows are of an expression at 0, of a statement at 1; another number changes
     /// nothing.
@@ -157,7 +157,7 @@ fn parse_with_length(buffer: &mut ParseBuffer<'_>) -> Result<BinaryAnnotation>
     Ok(BinaryAnnotation::ChangeCodeLengthAndCodeOffset(length, offset))
 }
 
-/// What follows an opcode that is no end.
+/// The annotation after an opcode that is no end.
 #[tactic(auto, unfolding(crate::specs::Annotations::behind_opcode))]
 fn parse_behind(buffer: &mut ParseBuffer<'_>, opcode: u32) -> Result<BinaryAnnotation>
     ensures value { ParsesFront (λ a. a) result (rest buffer.new)

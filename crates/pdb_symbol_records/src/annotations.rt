@@ -35,8 +35,8 @@ impl<'t> BinaryAnnotations<'t> {
 }
 
 /// An iterator over binary annotations. In place of one that can't be read it returns its fault:
-/// `UnexpectedEof`, `InvalidCompressedAnnotation` or `UnknownBinaryAnnotation`. Nothing comes after
-/// a fault.
+/// `UnexpectedEof`, `InvalidCompressedAnnotation` or `UnknownBinaryAnnotation`. No annotation comes
+/// after a fault.
 #[derive(Debug, Drop)]
 pub struct BinaryAnnotationsIter<'t> {
     buffer: ParseBuffer<'t>,

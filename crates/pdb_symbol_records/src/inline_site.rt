@@ -4,7 +4,7 @@ use crate::annotations::BinaryAnnotations;
 use pdb_container::{IdIndex, SymbolIndex};
 
 /// An inline site (`S_INLINESITE`, `S_INLINESITE2`), which is an inlined call: the symbol around it
-/// and the one that ends it, which function was inlined, and where its code lies.
+/// and the one that ends it, the inlined function, and the places of its code.
 #[derive(Clone, Copy, Debug)]
 pub struct InlineSiteSymbol<'t> {
     /// The symbol around it, where one is named.
@@ -13,8 +13,8 @@ pub struct InlineSiteSymbol<'t> {
     pub end: SymbolIndex,
     /// The inlinee: the id of the inlined function.
     pub inlinee: IdIndex,
-    /// How often it is called, where that is said (`S_INLINESITE2`).
+    /// The number of its invocations, where that is stated (`S_INLINESITE2`).
     pub invocations: Option<u32>,
-    /// Its binary annotations: where its code lies, and of which lines it was made.
+    /// Its binary annotations: the places of its code, and the lines from which the code was made.
     pub annotations: BinaryAnnotations<'t>,
 }

@@ -1,5 +1,5 @@
-//! Kinds of CodeView symbols (`S_*`, SYM_ENUM_e of microsoft-pdb's cvinfo.h): the numbers that say
-//! what a symbol is. `_ST` marks an older form, whose name is a Pascal string.
+//! Kinds of CodeView symbols (`S_*`, SYM_ENUM_e of microsoft-pdb's cvinfo.h), as numbers. `_ST`
+//! marks an older form, whose name is a Pascal string.
 
 ghost use Rattle.std.specs.Prelude.{◌≡◌};
 ghost use Rattle.pdb_symbol_records.specs.Kinds.{is_padding as is_padding_kind};
@@ -71,7 +71,7 @@ pub const S_LPROC32_DPC: u16 = 0x1155;
 /// A deferred procedure call (DPC) of one module, whose type is an id (0x1156).
 pub const S_LPROC32_DPC_ID: u16 = 0x1156;
 
-/// An inline site, with how often it is called (0x115d).
+/// An inline site, with the number of its invocations (0x115d).
 pub const S_INLINESITE2: u16 = 0x115d;
 
 /// Whether the kind is that of padding between symbols.

@@ -4,8 +4,8 @@ ghost use Rattle.std.specs.Prelude.{◌≡◌, ℕ, List, Ok, Some};
 ghost use Rattle.pdb_symbol_records.specs.Symbols.{Symbol as SymbolValue, next, next_by_step};
 ghost use Rattle.pdb_symbol_records.specs.Symbols.{symbol_before, symbols_from, IsFound};
 
-/// At the end of the list and past it nothing is found. Else what stands at the place counts: a
-/// fault is returned, a symbol is found, and after what lies between symbols the search goes on.
+/// Nothing is found at the end of the list and past it. Otherwise the symbol at the place counts: a
+/// fault is returned, a symbol is found, and after padding between symbols the search goes on.
 pub fn next_by_one_step()
     ensures { (bytes : List ℕ) (place : ℕ) → next bytes place ≡ next_by_step bytes place }
 {}

@@ -1,4 +1,4 @@
-//! CodeView symbols of a program and of its modules: their lists, what each symbol says, and the
+//! CodeView symbols of a program and of its modules: their lists, the form of each symbol, and the
 //! binary annotations of inline sites (`S_INLINESITE`), which say where an inlined call's code lies
 //! and of which lines it was made. The layouts are those of microsoft-pdb's cvinfo.h (for
 //! annotations BinaryAnnotationOpcode, as the pdb crate reads them) and of LLVM's CodeView Symbol

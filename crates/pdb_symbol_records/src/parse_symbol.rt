@@ -1,4 +1,4 @@
-//! What a symbol's bytes say.
+//! The values of symbols, from their bytes.
 
 ghost use Rattle.std.specs.Prelude.{◌≡◌, ◌≤◌, length, IfOk};
 ghost use Rattle.pdb_container.specs.Buffer.{rest, ParsesFront};
@@ -38,7 +38,7 @@ use pdb_container::{
 };
 
 impl<'t> Symbol<'t> {
-    /// What the symbol says, by its kind (`S_*`).
+    /// The symbol's value, by its kind (`S_*`).
     ///
     /// # Errors
     /// `UnimplementedSymbolKind` for a kind without a form, `UnexpectedEof` where bytes are
@@ -51,8 +51,8 @@ impl<'t> Symbol<'t> {
     }
 }
 
-/// What the bytes after a kind say. Most symbols of a module are of kinds without a form: these are
-/// sorted out first.
+/// The value of a symbol, from the bytes after its kind. Most symbols of a module are of kinds
+/// without a form: these are sorted out first.
 #[tactic(auto, unfolding(crate::specs::Records::form_of, crate::specs::Records::end_form))]
 fn parse_form(kind: u16, payload: &[u8]) -> Result<SymbolData<'_>>
     ensures { Parses symbol_form result (form_of kind payload.now) }
@@ -75,7 +75,7 @@ fn parse_form(kind: u16, payload: &[u8]) -> Result<SymbolData<'_>>
     }
 }
 
-/// What a kind without fields says.
+/// The value of a symbol of a kind without fields.
 #[tactic(auto, unfolding(crate::specs::Records::end_form))]
 fn parse_end<'t>(kind: u16) -> Result<SymbolData<'t>>
     ensures { Parses symbol_form result (end_form kind) }
@@ -98,7 +98,7 @@ fn optional_index(number: u32) -> Option<SymbolIndex>
     Some(SymbolIndex(number))
 }
 
-/// A name: for kinds below 0x1100 a Pascal string, else a C string.
+/// A name: for kinds below 0x1100 a Pascal string, otherwise a C string.
 #[tactic(auto, unfolding(crate::specs::Records::symbol_name_at))]
 fn parse_name<'t>(kind: u16, buffer: &mut ParseBuffer<'t>) -> Result<RawString<'t>>
     ensures { ParsesFront raw_bytes result (rest buffer.new)
@@ -131,7 +131,7 @@ fn parse_public(kind: u16, payload: &[u8]) -> Result<SymbolData<'_>>
     Ok(SymbolData::Public(public_in(payload, name)))
 }
 
-/// What the 10 bytes before a public symbol's name say.
+/// The public symbol, from the 10 bytes before its name.
 fn public_in<'t>(bytes: &[u8], name: RawString<'t>) -> PublicSymbol<'t>
     requires { 10 ≤ length bytes.now }
     ensures { public_form result ≡ public_of_front bytes.now (raw_bytes name.entry) }
@@ -159,7 +159,7 @@ fn parse_procedure(kind: u16, payload: &[u8]) -> Result<SymbolData<'_>>
     Ok(SymbolData::Procedure(procedure_in(kind, payload, name)))
 }
 
-/// What the 35 bytes before a procedure's name say.
+/// The procedure, from the 35 bytes before its name.
 fn procedure_in<'t>(kind: u16, bytes: &[u8], name: RawString<'t>) -> ProcedureSymbol<'t>
     requires { 35 ≤ length bytes.now }
     ensures { procedure_form result ≡ procedure_of_front kind bytes.now (raw_bytes name.entry) }
@@ -191,7 +191,7 @@ fn parse_thunk(kind: u16, payload: &[u8]) -> Result<SymbolData<'_>>
     Ok(SymbolData::Thunk(thunk_in(payload, name)))
 }
 
-/// What the 21 bytes before a thunk's name say.
+/// The thunk, from the 21 bytes before its name.
 fn thunk_in<'t>(bytes: &[u8], name: RawString<'t>) -> ThunkSymbol<'t>
     requires { 21 ≤ length bytes.now }
     ensures { thunk_form result ≡ thunk_of_front bytes.now (raw_bytes name.entry) }
@@ -221,7 +221,7 @@ fn parse_separated_code(payload: &[u8]) -> Result<SymbolData<'_>>
     Ok(SymbolData::SeparatedCode(separated_code_in(payload)))
 }
 
-/// What the 28 bytes of separated code say.
+/// The separated code, from its 28 bytes.
 fn separated_code_in(bytes: &[u8]) -> SeparatedCodeSymbol
     requires { 28 ≤ length bytes.now }
     ensures { result ≡ separated_code_of_front bytes.now }
@@ -242,7 +242,7 @@ fn separated_code_in(bytes: &[u8]) -> SeparatedCodeSymbol
     }
 }
 
-/// How many bytes of an inline site stand before its annotations.
+/// The number of bytes of an inline site before its annotations.
 fn inline_site_size(kind: u16) -> usize
     ensures size { result ≡ inline_site_front kind }
     ensures bound { 12 ≤ result }
@@ -250,7 +250,7 @@ fn inline_site_size(kind: u16) -> usize
     if kind == S_INLINESITE2 { 16 } else { 12 }
 }
 
-/// How often an inlined call is called, which the newer kind says.
+/// The number of invocations of an inlined call, which the newer kind states.
 fn invocations_in(kind: u16, bytes: &[u8]) -> Option<u32>
     requires { inline_site_front kind ≤ length bytes.now }
     ensures { result ≡ invocations_of kind bytes.now }
@@ -272,7 +272,7 @@ fn parse_inline_site(kind: u16, payload: &[u8]) -> Result<SymbolData<'_>>
     Ok(SymbolData::InlineSite(inline_site_in(kind, payload)))
 }
 
-/// What an inline site says, whose bytes before the annotations are all there.
+/// The inline site, of which the bytes before the annotations are all there.
 fn inline_site_in(kind: u16, bytes: &[u8]) -> InlineSiteSymbol<'_>
     requires { inline_site_front kind ≤ length bytes.now }
     ensures { inline_site_form result ≡ inline_site_of_front kind bytes.now }

@@ -43,7 +43,7 @@ impl<'t> Symbol<'t> {
         u16::from_le_bytes([self.bytes[0], self.bytes[1]])
     }
 
-    /// The record's bytes after the length: the kind, and what follows it.
+    /// The record's bytes after the length: the kind, and the payload.
     pub fn raw_bytes(&self) -> &'t [u8]
         ensures { result.now ≡ self.now.bytes }
     {
@@ -73,7 +73,7 @@ impl<'t> Symbol<'t> {
     }
 }
 
-/// What stands at a place of a list's bytes, and the place after it. `SymbolTooShort`,
+/// The symbol at a place of a list's bytes, and the place after it. `SymbolTooShort`,
 /// `UnexpectedEof`.
 #[tactic(auto, using(pdb_container::proofs::Taking::drop_within), unfolding(crate::specs::Symbols::symbol_at))]
 pub(crate) fn parse_symbol(bytes: &[u8], place: usize) -> Result<(Symbol<'_>, usize)>

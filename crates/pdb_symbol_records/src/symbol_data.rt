@@ -1,10 +1,10 @@
-//! What a CodeView symbol says (`S_*`).
+//! CodeView symbols as values (`S_*`).
 
 use crate::inline_site::InlineSiteSymbol;
 use pdb_addresses::PdbInternalSectionOffset;
 use pdb_container::{RawString, SymbolIndex, TypeIndex};
 
-/// A CodeView symbol's form: what it says, in the forms that are read.
+/// A CodeView symbol's value, for the kinds that have a form.
 #[derive(Clone, Copy, Debug)]
 pub enum SymbolData<'t> {
     /// A public symbol (`S_PUB32`): a name that other modules see.
@@ -36,7 +36,7 @@ pub struct PublicSymbol<'t> {
     pub managed: bool,
     /// Whether it is code in an intermediate language: bit 3.
     pub msil: bool,
-    /// Where it lies: a section's number, counted from 1, and an offset in bytes.
+    /// Its place: a section's number, counted from 1, and an offset in bytes.
     pub offset: PdbInternalSectionOffset,
     /// Its name as it is stored.
     pub name: RawString<'t>,
@@ -56,15 +56,15 @@ pub struct ProcedureSymbol<'t> {
     pub end: SymbolIndex,
     /// The next symbol of its kind, where one is named.
     pub next: Option<SymbolIndex>,
-    /// How many bytes of code it has.
+    /// The number of bytes of its code.
     pub len: u32,
-    /// Where its body begins, in bytes from its start.
+    /// The start of its body, in bytes from its own start.
     pub dbg_start_offset: u32,
-    /// Where its body ends, in bytes from its start.
+    /// The end of its body, in bytes from its own start.
     pub dbg_end_offset: u32,
-    /// The index of its type, or of its id where its kind says so (`_ID`).
+    /// The index of its type, or of its id for the kinds of that name (`_ID`).
     pub type_index: TypeIndex,
-    /// Where its code begins: a section's number, counted from 1, and an offset in bytes.
+    /// The start of its code: a section's number, counted from 1, and an offset in bytes.
     pub offset: PdbInternalSectionOffset,
     /// Its flags as they are stored.
     pub flags: u8,
@@ -82,11 +82,11 @@ pub struct ThunkSymbol<'t> {
     pub end: SymbolIndex,
     /// The next symbol of its kind, where one is named.
     pub next: Option<SymbolIndex>,
-    /// Where its code begins: a section's number, counted from 1, and an offset in bytes.
+    /// The start of its code: a section's number, counted from 1, and an offset in bytes.
     pub offset: PdbInternalSectionOffset,
-    /// How many bytes of code it has.
+    /// The number of bytes of its code.
     pub len: u16,
-    /// What sort of thunk it is (`THUNK_ORDINAL`), as it is stored.
+    /// The sort of thunk (`THUNK_ORDINAL`), as it is stored.
     pub kind: u8,
     /// Its name as it is stored.
     pub name: RawString<'t>,
@@ -100,13 +100,13 @@ pub struct SeparatedCodeSymbol {
     pub parent: Option<SymbolIndex>,
     /// The symbol that ends it.
     pub end: SymbolIndex,
-    /// How many bytes of code it has.
+    /// The number of bytes of its code.
     pub len: u32,
     /// Its flags as they are stored.
     pub flags: u32,
-    /// Where its code begins: a section's number, counted from 1, and an offset in bytes.
+    /// The start of its code: a section's number, counted from 1, and an offset in bytes.
     pub offset: PdbInternalSectionOffset,
-    /// Where the code of its procedure begins: a section's number, counted from 1, and an offset in
+    /// The start of the code of its procedure: a section's number, counted from 1, and an offset in
     /// bytes.
     pub parent_offset: PdbInternalSectionOffset,
 }

@@ -14,7 +14,7 @@ use Rattle.pdb_report.specs.RunFaults.{OnCounted, OnLoad, OnReversed, OnWrite, U
 use Rattle.pdb_symbolizer.specs.Tasks.{IsInOrder, IsReversed, OnRangeReport, OnReport, order_of}
 use Rattle.pdb_symbols_modules.specs.Streams.{streams}
 
--- The task's report by a file in memory, with the clauses of `run_frames`, `run_sizes` and
+-- The task's report from a file in memory, with the clauses of `run_frames`, `run_sizes` and
 -- `run_sizes_by_file`.
 pub record DoesTask {R W T : Type 0} (task : Task) (bytes : List ℕ)
     (remaining : R → Option (List ℕ)) (contents : W → Option (List ℕ))
@@ -38,7 +38,7 @@ pub record DoesTask {R W T : Type 0} (task : Task) (bytes : List ℕ)
   pub part : OnErr result ((writer' ≡ writer) ⊎ OnReport task (streams bytes)
       (remaining (inner_of reader)) (WritesFront contents writer writer'))
 
--- The same by a file that is read on demand: it is taken to have the same bytes, and what is said
+-- The same from a file that is read on demand: it is taken to have the same bytes, and what is said
 -- of these holds if they agree with what was read.
 pub record DoesFileTask {F R W : Type 0} (task : Task) (source : FileOnDemand F)
     (remaining : R → Option (List ℕ)) (written : W → Option (List ℕ))
@@ -70,7 +70,7 @@ pub record DoesFileTask {F R W : Type 0} (task : Task) (source : FileOnDemand F)
       ((writer' ≡ writer) ⊎ OnReport task (streams source.contents.numbers)
       (remaining (inner_of reader)) (WritesFront written writer writer'))
 
--- The report on a range, by source file or by function, by a file that is read on demand.
+-- The report on a range, by source file or by function, from a file that is read on demand.
 pub record WritesRange {F W : Type 0} (by_file : Bool) (source : FileOnDemand F) (start end : ℕ)
     (written : W → Option (List ℕ)) (writer writer' : Watched W) (result : FileRun F)
     : Type 0 where

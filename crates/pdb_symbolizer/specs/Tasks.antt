@@ -1,4 +1,4 @@
--- What a task asks for.
+-- The report that a task asks for.
 use Rattle.std.specs.Prelude.{ℕ, ◌<◌, ◌≤◌, Bool, true, false, List, Option, IfSome}
 use Rattle.pdb_arguments.specs.declared.task.Task.{Task}
 use Rattle.pdb_arguments.specs.declared.task.Task.TheVariants.{Frames, Sizes}
@@ -13,18 +13,18 @@ use Rattle.pdb_report.specs.AddressText.{line_text}
 use Rattle.pdb_report.specs.JsonLine.{json_line}
 use Rattle.pdb_symbols_modules.specs.Streams.{Streams}
 
--- in which order section contributions have to stand, by whether they may in any
+-- the order in which section contributions have to stand, by whether they may in any
 abbrev pub order_if : Bool → ContributionOrder
 order_if true = Any
 order_if false = InOrder
 
--- in which order they have to stand for a task
+-- the order in which they have to stand for a task
 abbrev pub order_of : Task → ContributionOrder
 order_of (Frames file demangle any_order json) = order_if any_order
 order_of (Sizes file start end by_file demangle any_order) = order_if any_order
 
--- This is said of the report on a range: of that by source file, or of that by function. Section
--- contributions have to stand in this order.
+-- This is said of the report on a range: of the one by source file, or of the one by function.
+-- Section contributions have to stand in this order.
 abbrev pub OnRangeReport : Bool → ContributionOrder → Streams → ℕ → ℕ → (List ℕ → Type 0)
     → Type 0
 OnRangeReport true order s start end P =
@@ -32,13 +32,13 @@ OnRangeReport true order s start end P =
 OnRangeReport false order s start end P =
     (text : List ℕ) × IsSizesReportWith order s start end text × P text
 
--- what is written for a line, by whether it is JSON
+-- the text for a line, by whether it is JSON
 abbrev pub line_if : Bool → LineText
 line_if true = json_line
 line_if false = line_text
 
--- This is said of the report that a task asks for: that on the lines of the input, where the input
--- is known, or that on the range from START to END.
+-- This is said of the report that a task asks for: the report on the lines of the input, where the
+-- input is known, or the report on the range from START to END.
 abbrev pub OnReport : Task → Streams → Option (List ℕ) → (List ℕ → Type 0) → Type 0
 OnReport (Frames file demangle any_order json) s input P =
     IfSome input (λ lines. P (report (line_if json (answer_with (order_if any_order) s)) lines))

@@ -24,14 +24,15 @@ abbrev pub is_in_name : ReportKind → ℕ → Bool
 is_in_name Json b = not ((b == 32) || (b == 34))
 is_in_name kind b = is_in_word b
 
--- where a line goes on after the next blank from a place on; its end if there is none
+-- the place after the next blank from a place of a line on; the line's end if there is none
 abbrev pub after_blank : List ℕ → ℕ → ℕ
 after_blank line start =
     let blank = start + prefix_len is_in_word (drop start line) in
     if nat_lt blank (length line) then blank + 1 else blank
 
--- where a line's name begins; at its end if it has none: after two blanks in a line of frames, after
--- the start and the count in a line of sizes, and after its member's name in JSON
+-- the place at which a line's name begins; the line's end if it has none: after two blanks in a
+-- line of frames, after the start and the count in a line of sizes, and after its member's name in
+-- JSON
 unfoldable pub name_start : ReportKind → List ℕ → ℕ
 name_start Frames line =
     if (slice_index line 0 == 32) && (slice_index line 1 == 32) then 2 else length line
@@ -39,7 +40,7 @@ name_start Sizes line = after_blank line (after_blank line 0)
 name_start Json line =
     if starts_with (λ a b. a == b) line (codes "\"function\":\"") then 12 else length line
 
--- where it ends
+-- the place at which a line's name ends
 abbrev pub name_end : ReportKind → List ℕ → ℕ
 name_end kind line =
     name_start kind line + prefix_len (is_in_name kind) (drop (name_start kind line) line)
@@ -53,14 +54,14 @@ name_in kind line =
 abbrev pub is_decorated : List ℕ → Bool
 is_decorated name = nat_le 3 (length name) && (slice_index name 0 == 63)
 
--- What may stand for a name: the name itself; or, where it may be decorated, a text of at most
--- 2^20 bytes.
+-- A text that may stand for a name: the name itself; or, where it may be decorated, a text of at
+-- most 2^20 bytes.
 abbrev pub IsNameText : List ℕ → List ℕ → Type 0
 IsNameText name text =
     (text ≡ name) ⊎ ((is_decorated name ≡ true) × (length text ≤ 2 ^ 20))
 
--- What may stand for it in a report of a kind: in JSON the name as it stands, or what stands for the
--- text in a string.
+-- A text that may stand for a name in a report of a kind: in JSON the name as it stands, or the
+-- text as it is escaped in a string.
 abbrev pub IsTextIn : ReportKind → List ℕ → List ℕ → Type 0
 IsTextIn Json name text = (text ≡ name)
     ⊎ ((plain : List ℕ) × IsNameText name plain × (text ≡ flat_map escaped plain))
@@ -75,7 +76,7 @@ IsNamed kind line named = (text : List ℕ) × IsTextIn kind (name_in kind line)
 abbrev pub IsUnbroken : ReportKind → List ℕ → Type 0
 IsUnbroken kind text = AllPass (is_in_line kind) text
 
--- a text is a line, the byte that ends it and what comes after
+-- a text is a line, the byte that ends it and the rest after it
 pub record SplitsLine (kind : ReportKind) (text line : List ℕ) (end : ℕ) (after : List ℕ)
     : Type 0 where
   pub unbroken : IsUnbroken kind line
@@ -94,11 +95,11 @@ pub record IsLineOf (kind : ReportKind) (line : Line) : Type 0 where
   pub is_named : IsNamed kind line.stored line.named
   pub ends : is_in_line kind line.end ≡ false
 
--- the lines as they were, with what ends them
+-- the lines as they were, with the bytes that end them
 abbrev pub stored_lines : List Line → List ℕ
 stored_lines lines = flat_map (λ line. line.stored ++ line.end ∷ []) lines
 
--- the lines as they are written, with what ends them
+-- the lines as they are written, with the bytes that end them
 abbrev pub named_lines : List Line → List ℕ
 named_lines lines = flat_map (λ line. line.named ++ line.end ∷ []) lines
 

@@ -1,12 +1,12 @@
--- What a writer that undecorates names writes.
+-- The text that a writer that undecorates names writes.
 use Rattle.std.specs.Prelude.{◌≡◌, ℕ, List, ◌++◌, Option}
 use Rattle.std.specs.Io.KnownBytes.{Appends}
 use Rattle.pdb_engine.specs.InputLines.{Begins}
 use Rattle.pdb_symbolizer.specs.UndecoratedLines.{IsUnbroken, Undecorates}
 use Rattle.pdb_symbolizer.specs.declared.undecorated.writer.UndecoratedWriter.{UndecoratedWriter}
 
--- The lines that end in what was pending and the bytes were written with the texts of their names,
--- and what comes after them is pending.
+-- The lines that end in the pending and the given bytes were written with the texts of their names,
+-- and the rest after them is pending.
 pub record WritesEnded {W : Type 0} (contents : W → Option (List ℕ)) (old new : UndecoratedWriter W)
     (bytes : List ℕ) : Type 0 where
   pub same_kind : new.kind ≡ old.kind
@@ -15,8 +15,8 @@ pub record WritesEnded {W : Type 0} (contents : W → Option (List ℕ)) (old ne
   pub is_named : Undecorates old.kind (old.pending.items ++ bytes) new.pending.items named
   pub out : Appends (contents old.writer) (contents new.writer) named
 
--- A prefix of lines of what was pending and of the bytes was written with the texts of their names,
--- and the bytes weren't taken.
+-- A prefix of the lines of the pending and the given bytes was written with the texts of their
+-- names, and the given bytes weren't taken.
 pub record WritesFrontOf {W : Type 0} (contents : W → Option (List ℕ))
     (old new : UndecoratedWriter W) (bytes : List ℕ) : Type 0 where
   pub same_kind : new.kind ≡ old.kind

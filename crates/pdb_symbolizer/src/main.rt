@@ -1,10 +1,10 @@
-//! Answers addresses of a program by its program database: `pdb_symbolizer frames FILE`; and counts
-//! how many addresses of a range each function has, or with `--by-file` each source file:
-//! `pdb_symbolizer sizes FILE START END`. With `--demangle` names of functions are undecorated. With
-//! `--json` `frames` writes lines of JSON.
+//! Answers addresses of a program from its program database: `pdb_symbolizer frames FILE`; and
+//! counts the addresses of a range that each function has, or with `--by-file` each source file:
+//! `pdb_symbolizer sizes FILE START END`. With `--demangle` names of functions are undecorated.
+//! With `--json` `frames` writes lines of JSON.
 //!
-//! How a file is read may change. What is written, with which status, may not: scripts read it, and
-//! contracts of `pdb_report` say it.
+//! The way in which a file is read may change. What is written, with which status, may not: scripts
+//! read it, and contracts of `pdb_report` say it.
 #![tactic(auto)]
 
 ghost use Rattle.std.specs.Prelude.{◌≡◌, Ok, Err, IfErr, OnOk};
@@ -70,7 +70,7 @@ fn file_path(task: &Task) -> &str {
     }
 }
 
-/// In which order section contributions have to stand for a task.
+/// The order in which section contributions have to stand for a task.
 fn order_of(task: &Task) -> ContributionOrder
     ensures { result ≡ order_for task.now }
 {
@@ -87,7 +87,7 @@ fn order_of(task: &Task) -> ContributionOrder
     }
 }
 
-/// Which report a task asks for with undecorated names, if it does: by file it has no names of
+/// The report that a task asks for with undecorated names, if it does: by file it has no names of
 /// functions.
 fn undecorated_report(task: &Task) -> Option<ReportKind> {
     match task {
@@ -106,8 +106,8 @@ fn undecorated_report(task: &Task) -> Option<ReportKind> {
     }
 }
 
-/// Opens a file without bytes, if it can be. Where standard input is closed the first file that is
-/// opened takes its place, and would be read for it.
+/// Opens a file without bytes, if it can be opened. Where standard input is closed the first file
+/// that is opened takes its place, and would be read for it.
 ///
 /// # Errors
 /// `OutOfMemory`.
@@ -120,10 +120,10 @@ fn empty_file<S: Files>(rt: &S) -> io::Result<Option<S::File>> {
 }
 
 /// Writes the report that is asked for to an output, through a writer that undecorates its names if
-/// that is asked for.
+/// the task asks for it.
 ///
 /// # Errors
-/// As `report_by_file`.
+/// The errors of `report_by_file`.
 fn write_report<S: Files + AllocGlobal, R: Read, W: Write + Drop>(
     rt: &S,
     task: &Task,
@@ -146,11 +146,11 @@ where
     }
 }
 
-/// Writes the report that is asked for by the task's file: a regular one is read on demand, any
+/// Writes the report that is asked for from the task's file: a regular one is read on demand, any
 /// other from its beginning on. The process is left to give its memory back.
 ///
 /// # Errors
-/// Why the file can't be opened, or read from its beginning on.
+/// The error in opening the file, or in reading it from its beginning on.
 fn report_by_file<S: Files + AllocGlobal, R: Read, W: Write>(
     rt: &S,
     task: &Task,
@@ -178,8 +178,8 @@ where
     Ok(outcome)
 }
 
-/// Reports why the arguments give no task, and returns the exit status; 1 where help can't be
-/// written, which is reported, too.
+/// Reports the fault of arguments that give no task, and returns the exit status; 1 where help
+/// can't be written, which is reported, too.
 fn finish_words<W: Write, E: Write>(fault: &WordsFault, output: &mut W, errors: &mut E) -> u8 {
     match tell_words(fault, output, errors) {
         Ok(status) => status,
@@ -190,7 +190,7 @@ fn finish_words<W: Write, E: Write>(fault: &WordsFault, output: &mut W, errors: 
 /// Writes the report that is asked for.
 ///
 /// # Errors
-/// As [`run_frames`] and [`run_sizes`].
+/// The errors of [`run_frames`] and [`run_sizes`].
 fn run_task<R: Read, W: Write>(
     alloc: Global,
     task: &Task,
@@ -228,7 +228,7 @@ fn run_task<R: Read, W: Write>(
     }
 }
 
-/// How a count ended; how much was looked up for it isn't reported.
+/// The outcome of a count; how much was looked up for it isn't reported.
 fn without_tally(outcome: Result<Tally, RunFault>) -> Result<(), RunFault>
     ensures ok { OnOk outcome (result ≡ Ok tt) }
     ensures err { IfErr outcome (λ fault. result ≡ Err fault) }

@@ -1,4 +1,4 @@
-//! Reports by a file that is read on demand.
+//! Reports from a file that is read on demand.
 
 ghost use Rattle.std.specs.Prelude.{◌≡◌};
 ghost use Rattle.pdb_symbolizer.specs.TaskReports.{DoesFileTask, WritesRange};
@@ -15,7 +15,7 @@ use std::io::{Read, Write};
 use std::os::unix::fs::FileExt;
 
 /// The size of a file that can be read at any place, in bytes; `None` of any other, such as a pipe
-/// or a device, and of one that says that it has no byte, such as those of `/proc`.
+/// or a device, and of one that says that it has no byte, such as the files of `/proc`.
 pub fn size_of(file: &impl OpenFile) -> Option<u64> {
     match file.metadata() {
         Ok(metadata) if metadata.is_file() && metadata.len() > 0 => Some(metadata.len()),
@@ -23,9 +23,9 @@ pub fn size_of(file: &impl OpenFile) -> Option<u64> {
     }
 }
 
-/// Writes the report that is asked for by a file that is read on demand. What is said of the file's
-/// bytes holds of those that `source` takes the file to have, where they agree with everything that
-/// was read.
+/// Writes the report that is asked for from a file that is read on demand. What is said of the
+/// file's bytes holds of those that `source` takes the file to have, where they agree with
+/// everything that was read.
 pub fn run_task_on_demand<'a, F: FileExt + Drop, R: Read, W: Write>(
     alloc: Global,
     task: &Task,
@@ -57,7 +57,7 @@ pub fn run_task_on_demand<'a, F: FileExt + Drop, R: Read, W: Write>(
     }
 }
 
-/// Writes the report on a range, by source file or by function, by a file that is read on demand;
+/// Writes the report on a range, by source file or by function, from a file that is read on demand;
 /// how much was looked up for it isn't reported.
 fn count_sizes_on_demand<'a, F: FileExt + Drop, W: Write>(
     alloc: Global,

@@ -1,8 +1,8 @@
 //! Lines of a report with the names of functions as people read them: a writer that takes a report
 //! and writes it with its decorated names undecorated.
 //!
-//! How lines are gathered may change. What is written of a line that has no decorated name may not:
-//! it is that line.
+//! The way in which lines are gathered may change. The text that is written for a line that has no
+//! decorated name may not: it is this line.
 
 mod lines;
 mod writer;

@@ -8,11 +8,12 @@ use Rattle.pdb_addresses.specs.Sections.{section_headers_of}
 use Rattle.pdb_symbols_modules.specs.OptionalHeader.{to_source_place, from_source_place}
 use Rattle.pdb_symbols_modules.specs.OptionalHeader.{sections_place, original_sections_place}
 
--- what the optional header leads to: the bytes of the stream at a place, where one is named
+-- the streams to which the optional header leads: the bytes of the one at a place, where one is
+-- named
 abbrev pub Found : Type 0
 Found = ℕ → Result (Option (List ℕ)) Fault
 
--- what a stream that may be there says
+-- the reading of a stream that may be there
 abbrev pub read_if_there : {A : Type 0} → (List ℕ → Result A Fault) → Option (List ℕ)
     → Result (Option A) Fault
 read_if_there read None = Ok None
@@ -46,7 +47,7 @@ abbrev pub map_with : Found → List ImageSectionHeader → Option (List ImageSe
 map_with found image None = Ok (map_of None image None None)
 map_with found image (Some original) = map_behind found image original
 
--- the sections of a list, none without one
+-- the sections of a list, or none without a list
 abbrev pub or_none : Option (List ImageSectionHeader) → List ImageSectionHeader
 or_none None = []
 or_none (Some sections) = sections

@@ -1,4 +1,4 @@
--- The section contributions of the DBI stream (3): which module put which part into a section.
+-- The section contributions of the DBI stream (3): parts of sections, each with its module.
 -- The layout is that of the Section Contribution Substream of LLVM's The PDB DBI Stream.
 use Rattle.std.specs.Prelude.{ℕ, ◌+◌, List, [], ◌∷◌, ◌==◌, None, if◌then◌else◌, Result, Ok, Err}
 use Rattle.std.specs.Prelude.{codes}
@@ -13,7 +13,7 @@ use Rattle.pdb_symbols_modules.specs.declared.contributions.DBISectionContributi
 use Rattle.pdb_symbols_modules.specs.declared.contributions.Version.{Version}
 use Rattle.pdb_symbols_modules.specs.declared.contributions.Version.TheVariants as versions
 
--- what an entry says, by the places of its numbers
+-- an entry, by the places of its numbers
 abbrev pub contribution_in : List ℕ → DBISectionContribution
 contribution_in bytes = record {
   offset = record { section = half_at bytes 0; offset = word_at bytes 4 };
@@ -49,7 +49,7 @@ version_of n =
     else (if n == 0xeffe0000 + 20140516 then Ok versions.V2
     else Err (UnimplementedFeature (codes "section contribution version")))
 
--- the entries after their version, and how they end; an empty substream has none
+-- the entries after their version, and the end of their list; an empty substream has none
 unfoldable pub contributions_of : List ℕ → Result (Listing DBISectionContribution) Fault
 contributions_of [] = Ok (ending None)
 contributions_of (b ∷ bytes) = do

@@ -1,4 +1,4 @@
--- What is read of a database: each call as a function of its streams, with its first fault.
+-- The calls of a database: each as a function of its streams, with its first fault.
 use Rattle.std.specs.Prelude.{ℕ, List, nat_lt, Option, Result}
 use Rattle.pdb_container.specs.Fault.{Fault, GlobalSymbolsNotFound, ◌>>=◌, guard}
 use Rattle.pdb_container.specs.StringTable.{names_of}
@@ -15,13 +15,13 @@ use Rattle.pdb_symbols_modules.specs.OptionalHeader.{optional_stream}
 use Rattle.pdb_symbols_modules.specs.Shared.{Shared, named_number, optional_in, info_in}
 use Rattle.pdb_symbols_modules.specs.Streams.{Bytes, Streams}
 
--- ---- what belongs to no module
+-- ---- streams that belong to no module
 
--- what the database says of itself
+-- the information stream (1)
 unfoldable pub information : Shared → Result Information Fault
 information c = c.information >>= information_of
 
--- what is read of the DBI stream (3)
+-- the DBI stream (3)
 unfoldable pub debug_information : Shared → Result Dbi Fault
 debug_information c = c.dbi >>= dbi_of
 
@@ -37,7 +37,7 @@ ids c = c.ids >>= table_of
 unfoldable pub names : Shared → Result (List ℕ) Fault
 names c = c.names >>= names_of
 
--- the bytes of the symbol records, of which a database has to have a stream, by its number
+-- the bytes of the symbol records, of which a database has to have a stream, by the stream's number
 unfoldable pub global_symbols_by : ℕ → Bytes → Bytes
 global_symbols_by n stream = do
   there ← guard (nat_lt n 65535) GlobalSymbolsNotFound
@@ -61,17 +61,17 @@ address_map c = do
   d ← debug_information c
   address_map_by (optional_in c d)
 
--- ---- what is asked for by name, or by a module's entry
+-- ---- streams by name, or by a module's entry
 
--- the bytes of the stream of a name
+-- the bytes of the stream with a name
 unfoldable pub named_stream : Streams → List ℕ → Bytes
 named_stream s name = named_number name (s.at 1) >>= s.at
 
--- what a module's own stream holds, where it has one
+-- the content of a module's own stream, where it has one
 unfoldable pub module_info : Streams → Module → Result (Option ModuleStream) Fault
 module_info s m = info_in m (s.at m.stream)
 
--- ---- what is read by the DBI
+-- ---- the same by the DBI
 
 -- the bytes of the symbol records
 abbrev pub symbols_in : Dbi → Streams → Bytes

@@ -6,8 +6,8 @@ use Rattle.pdb_container.specs.Fault.{Fault, UnexpectedEof, UnimplementedFeature
 use Rattle.pdb_container.specs.Container.{half_at, word_at}
 use Rattle.pdb_symbols_modules.specs.declared.dbi.DBIHeader.{DBIHeader}
 
--- What the header says, by the places of its numbers. Between these lie versions, numbers of
--- streams, the number of a compiler's own index, and flags.
+-- The header, by the places of its numbers. Between these lie versions, numbers of streams, the
+-- number of a compiler's own index, and flags.
 abbrev pub header_in : List ℕ → DBIHeader
 header_in bytes = record {
   age = word_at bytes 8;
@@ -31,8 +31,8 @@ header_of bytes = do
   Ok (header_in bytes)
 
 -- The substreams follow the header in this order: module list, contributions, section map, file
--- info, type server map, edit and continue, optional header. Here are the places of those that are
--- read.
+-- info, type server map, edit and continue, optional header. The places of those that are read
+-- follow.
 
 -- the byte place of the contributions
 abbrev pub contributions_place : DBIHeader → ℕ
@@ -44,11 +44,11 @@ optional_header_place h =
     contributions_place h + h.section_contribution_size + h.section_map_size + h.file_info_size
     + h.type_server_map_size + h.ec_substream_size
 
--- where the last of them ends
+-- the end of the last substream
 abbrev pub substreams_end : DBIHeader → ℕ
 substreams_end h = optional_header_place h + h.debug_header_size
 
--- what is read of stream 3
+-- the DBI stream (3), as far as it is read
 pub record Dbi : Type 0 where
   pub age : ℕ
   pub machine : ℕ
@@ -62,7 +62,7 @@ pub record Dbi : Type 0 where
 abbrev pub piece : List ℕ → ℕ → ℕ → List ℕ
 piece bytes place size = take size (drop place bytes)
 
--- what a stream with this header says
+-- the DBI of a stream with this header
 abbrev pub dbi_in : DBIHeader → List ℕ → Dbi
 dbi_in h bytes = record {
   age = h.age;

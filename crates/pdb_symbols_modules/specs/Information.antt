@@ -1,5 +1,5 @@
--- The information stream (1): what a database says of itself, and the names that it gives to
--- streams. The layout is that of LLVM's The PDB Info Stream, as the pdb crate reads it.
+-- The information stream (1): version, signature, age and GUID of a database, and the names that it
+-- gives to streams. The layout is that of LLVM's The PDB Info Stream, as the pdb crate reads it.
 use Rattle.std.specs.Prelude.{ℕ, ◌*◌, Bool, List, nat_lt, nat_eq, ◌==◌, Option, None, Some}
 use Rattle.std.specs.Prelude.{if◌then◌else◌, Result, Ok, Err}
 use Rattle.std.specs.List.{find}
@@ -10,18 +10,18 @@ use Rattle.pdb_container.specs.Fields.{Reader, number_at, bytes_of}
 use Rattle.pdb_container.specs.StringTable.{name_in}
 use Rattle.pdb_container.specs.RecordFields.{many_at}
 
--- what a database says of itself, and the whole stream
+-- the information of a database, and the whole stream
 pub record Information : Type 0 where
   pub version : ℕ
-  -- the time at which it was made
+  -- the time at which the database was made
   pub signature : ℕ
-  -- how often it was written since
+  -- the age: how often the database was written since
   pub age : ℕ
   -- 16 bytes
   pub guid : List ℕ
   pub bytes : List ℕ
 
--- what stream 1 says of the database: version, signature, age and GUID
+-- the information in stream 1: version, signature, age and GUID
 unfoldable pub information_of : List ℕ → Result Information Fault
 information_of bytes = do
   version ← number_at w32 bytes
@@ -63,8 +63,8 @@ stream_names_at names count = many_at (stream_name_at names) count
 abbrev pub bits_at : Reader (List ℕ)
 bits_at bytes = number_at w32 bytes >>= λ count. bytes_of (4 * count.0) count.1
 
--- The entries that the stream holds after its first 28 bytes: a block of names, after its size; how
--- many entries there are, and for how many there is room; which places are used, and which were;
+-- The entries that the stream holds after its first 28 bytes: a block of names, after its size; the
+-- number of entries, and of those for which there is room; the used places, and those used before;
 -- the entries.
 unfoldable pub stream_names_of : List ℕ → Result (List StreamName) Fault
 stream_names_of bytes = do

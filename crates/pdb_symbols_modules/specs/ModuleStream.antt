@@ -32,7 +32,7 @@ with_parts bytes symbols_size c11_lines_size c13_lines_size = record {
 
 -- ---- symbols
 
--- bytes that begin with the signature of symbols; no bytes need none
+-- bytes that begin with the signature of symbols; an empty list needs no signature
 unfoldable pub signed : List ℕ → Result (List ℕ) Fault
 signed [] = Ok []
 signed (b ∷ bytes) = do
@@ -52,7 +52,7 @@ iteration_in m place = symbol_list_bytes m >>= λ bytes. Ok (iteration_at bytes 
 
 -- ---- line data
 
--- the line data after the symbols; none where there are line data in the older form
+-- the line data after the symbols; line data in the older form are refused
 unfoldable pub line_data_in : ModuleStream → Result (List ℕ) Fault
 line_data_in m = do
   plain ← refuse (nat_lt 0 m.c11_lines_size) (UnimplementedFeature (codes "C11 line programs"))
@@ -71,24 +71,24 @@ subsection_in m kind = do
   bytes ← line_data_in m
   first_of kind (subsections_of bytes)
 
--- what the first subsection of a kind says, or what is said where there is none
+-- the reading of the first subsection of a kind, or another value where there is none
 abbrev pub said_or : {A : Type 0} → A → (List ℕ → Result A Fault) → Option (List ℕ) → Result A Fault
 said_or other read None = Ok other
 said_or other read (Some bytes) = read bytes
 
--- the inlined functions of a module (DEBUG_S_INLINEELINES), and how their list ends
+-- the inlined functions of a module (DEBUG_S_INLINEELINES), and the end of their list
 unfoldable pub inlinees_in : ModuleStream → Result (Listing InlinedFunction) Fault
 inlinees_in m = do
   found ← subsection_in m inlinees_kind
   said_or (ending None) inlinees_of found
 
--- what a module takes from other modules (DEBUG_S_CROSSSCOPEIMPORTS)
+-- the imports of a module (DEBUG_S_CROSSSCOPEIMPORTS)
 unfoldable pub imports_in : ModuleStream → Result (List Import) Fault
 imports_in m = do
   found ← subsection_in m imports_kind
   said_or [] imports_of found
 
--- what a module gives to other modules (DEBUG_S_CROSSSCOPEEXPORTS)
+-- the exports of a module (DEBUG_S_CROSSSCOPEEXPORTS)
 unfoldable pub exports_in : ModuleStream → Result (List Entry) Fault
 exports_in m = do
   found ← subsection_in m exports_kind

@@ -6,8 +6,8 @@ use Rattle.pdb_container.specs.Fault.{Fault, ◌>>=◌}
 use Rattle.pdb_container.specs.Fields.{Reader, number_at, bytes_of, c_string_at, padding}
 use Rattle.pdb_container.specs.Listing.{Listing, listing}
 
--- what is said of a module: the number of its stream, 65535 for none; the sizes of that stream's
--- parts; its names
+-- an entry of the module list: the number of the module's stream, 65535 for none; the sizes of that
+-- stream's parts; the module's names
 pub record Module : Type 0 where
   pub stream : ℕ
   pub symbols_size : ℕ
@@ -16,8 +16,8 @@ pub record Module : Type 0 where
   pub module_name : List ℕ
   pub object_file_name : List ℕ
 
--- An entry: numbers and two names, aligned to four bytes or the list's end. As each entry is, the
--- alignment counts from the entry's own beginning.
+-- An entry: numbers and two names, aligned to four bytes or the list's end. The alignment counts
+-- from the entry's own beginning, since each entry is aligned.
 unfoldable pub module_at : Reader Module
 module_at bytes = do
   opened ← bytes_of 34 bytes
@@ -40,6 +40,6 @@ module_at bytes = do
     drop (padding (length bytes - length object_file_name.1)) object_file_name.1,
   )
 
--- the modules, and how their list ends
+-- the modules, and the end of their list
 abbrev pub modules_of : List ℕ → Listing Module
 modules_of bytes = listing module_at bytes

@@ -20,6 +20,6 @@ nul_places at (b ∷ bytes) =
 abbrev pub is_reached : ℕ → ℕ → Bool
 is_reached offset place = not (nat_lt place offset)
 
--- entries, each of them so
+-- the code's entries for streams' names, as the definitions see them
 abbrev pub stream_names_seen : Vec StreamName → List information.StreamName
 stream_names_seen entries = map stream_name_seen entries.items

@@ -10,31 +10,31 @@ use Rattle.pdb_symbols_modules.specs.Streams.{Streams, stream_if_named}
 
 -- ---- the places of the numbers that are used, counted from 0
 
--- of the OMAP from addresses of the image to those of the database
+-- the place of the OMAP from addresses of the image to those of the database
 abbrev pub to_source_place : ℕ
 to_source_place = 3
 
--- of the OMAP back, from addresses of the database to those of the image
+-- the place of the OMAP back, from addresses of the database to those of the image
 abbrev pub from_source_place : ℕ
 from_source_place = 4
 
--- of the section headers of the image
+-- the place of the section headers of the image
 abbrev pub sections_place : ℕ
 sections_place = 5
 
--- of the section headers before the image's code was moved
+-- the place of the section headers before the image's code was moved
 abbrev pub original_sections_place : ℕ
 original_sections_place = 10
 
--- ---- what the numbers are
+-- ---- the numbers at these places
 
--- what is read, or another number where it isn't there
+-- the number that is read, or another one where it isn't there
 abbrev pub value_or : ℕ → Result (ℕ × List ℕ) Fault → ℕ
 value_or other (Ok read) = read.0
 value_or other (Err missing) = other
 
--- the number at a place of the optional header, counted from 0; a missing one is 65535, as one that
--- names no stream
+-- the number at a place of the optional header, counted from 0; a missing one is 65535, which names
+-- no stream
 unfoldable pub optional_at : ℕ → List ℕ → Result ℕ Fault
 optional_at place bytes = do
   even ← refuse (not (length bytes % 2 == 0)) (InvalidStreamLength (codes "DbgDataHdr"))

@@ -1,4 +1,4 @@
--- The streams that belong to no module, each with its fault, and what a file holds of each module.
+-- The streams that belong to no module, each with its fault, and the content of each module.
 use Rattle.std.specs.Prelude.{ℕ, ◌==◌, List, Option, None, Some, option_map, nat_lt, if◌then◌else◌}
 use Rattle.std.specs.Prelude.{slice_get, Result, Ok, Err, codes}
 use Rattle.pdb_container.specs.Fault.{Fault, StreamNotFound, ◌>>=◌}
@@ -22,24 +22,24 @@ number n = if nat_lt n 65535 then Ok n else Err (StreamNotFound 65535)
 unfoldable pub named : Result ℕ Fault → Result ℕ Fault
 named read = read >>= number
 
--- the stream to which the database gives a name, by the bytes of stream 1
+-- the number of the stream to which the database gives a name, from the bytes of stream 1
 unfoldable pub named_number : List ℕ → Bytes → Result ℕ Fault
 named_number name information = named do
   own ← information >>= information_of
   entries ← stream_names_of own.bytes
   number_of name entries
 
--- the stream of the names of files and modules
+-- the number of the stream of the names of files and modules
 abbrev pub names_number : Bytes → Result ℕ Fault
 names_number information = named_number (codes "/names") information
 
--- the stream of the symbol records, by the bytes of stream 3
+-- the number of the stream of the symbol records, from the bytes of stream 3
 unfoldable pub symbols_number : Bytes → Result ℕ Fault
 symbols_number dbi = named do
   d ← dbi >>= dbi_of
   Ok d.symbol_records_stream
 
--- the stream at a place of the optional header
+-- the number of the stream at a place of the optional header
 unfoldable pub optional_number : ℕ → Bytes → Result ℕ Fault
 optional_number place dbi = named do
   d ← dbi >>= dbi_of
@@ -47,7 +47,7 @@ optional_number place dbi = named do
 
 -- ---- streams that belong to no module
 
--- streams 1 to 4, and those to which they lead
+-- streams 1 to 4, and the streams to which they lead
 pub record Shared : Type 0 where
   pub open_fault : Option Fault
   pub information : Bytes
@@ -61,7 +61,7 @@ pub record Shared : Type 0 where
   pub section_headers : Bytes
   pub original_sections : Bytes
 
--- what a file holds besides its modules
+-- the streams of a file that belong to no module
 unfoldable pub shared : Streams → Shared
 shared s = record {
   open_fault = s.open_fault;
@@ -124,26 +124,26 @@ module_stream m bytes =
       c13_lines_size = m.c13_lines_size;
     }
 
--- what a module holds, by its entry and its stream, where it names one
+-- the content of a module, by its entry and its stream, where it names one
 unfoldable pub info_in : Module → Bytes → Result (Option ModuleStream) Fault
 info_in m stream = do
   found ← if_named m.stream stream
   Ok (option_map (module_stream m) found)
 
--- what a module holds, if it is in the list
+-- the content of a module, if it is in the list
 abbrev pub info_if_listed : Bytes → Option Module → Result (Option ModuleStream) Fault
 info_if_listed stream None = Ok None
 info_if_listed stream (Some m) = info_in m stream
 
--- what the module with that index holds, by the bytes of stream 3 and of its own stream
+-- the content of the module with that index, from the bytes of stream 3 and of its own stream
 unfoldable pub info_from : Bytes → ℕ → Bytes → Result (Option ModuleStream) Fault
 info_from dbi k stream = module_of_number dbi k >>= info_if_listed stream
 
--- What a file holds of each module by its number: none past the list and for a module without a
+-- The content of each module of a file by its number: none past the list and for a module without a
 -- stream; the fault of stream 3 or of the module's stream.
 abbrev pub Provider : Type 0
 Provider = ℕ → Result (Option ModuleStream) Fault
 
--- what a file holds of each module
+-- the content of each module of a file
 unfoldable pub provider : Streams → Provider
 provider s k = info_from (s.at 3) k (module_bytes s k)

@@ -3,13 +3,13 @@ use Rattle.std.specs.Prelude.{ℕ, List, Option, Some, None, Result, Ok, Err, na
 use Rattle.pdb_container.specs.Fault.{Fault, ◌>>=◌}
 use Rattle.pdb_container.specs.Container.{layout_of, stream}
 
--- the bytes of a stream, or why they can't be had
+-- the bytes of a stream, or the fault of reading them
 abbrev pub Bytes : Type 0
 Bytes = Result (List ℕ) Fault
 
 -- a file as numbered streams: whether it opens, and each stream's bytes or its fault
 pub record Streams : Type 0 where
-  -- why the container isn't opened
+  -- the fault for which the container isn't opened
   pub open_fault : Option Fault
   pub at : ℕ → Bytes
 

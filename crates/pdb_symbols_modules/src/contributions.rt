@@ -1,4 +1,4 @@
-//! Section contributions of the DBI stream: which module put which part into a section.
+//! Section contributions of the DBI stream: parts of sections, each with its module.
 
 ghost use Rattle.std.specs.Prelude.{◌≡◌, ◌<◌, ◌≤◌, length, IfOk, None};
 ghost use Rattle.pdb_container.specs.Buffer.{rest, ParsesFront};
@@ -19,14 +19,14 @@ const VERSION_60: u32 = 0xeffe_0000 + 19_970_605;
 /// The version of entries of 32 bytes.
 const VERSION_2: u32 = 0xeffe_0000 + 20_140_516;
 
-/// A section contribution: what a module put into a section.
+/// A section contribution: a part of a section, from one module.
 #[derive(Clone, Copy, Debug, PartialEq, Eq)]
 pub struct DBISectionContribution {
-    /// Where it begins: a section's number, counted from 1, and an offset in bytes.
+    /// The start of the part: a section's number, counted from 1, and an offset in bytes.
     pub offset: PdbInternalSectionOffset,
-    /// How many bytes it has.
+    /// The number of its bytes.
     pub size: u32,
-    /// What may be done in its section.
+    /// The rights in its section.
     pub characteristics: SectionCharacteristics,
     /// The module's number, counted from 0.
     pub module: u16,
@@ -46,7 +46,7 @@ pub enum Version {
 }
 
 /// An iterator over section contributions, in the order of their list. Its value in contracts is
-/// what is still to come.
+/// the contributions still to come.
 #[derive(Debug, Drop)]
 pub struct DBISectionContributionIter<'c> {
     buffer: ParseBuffer<'c>,
@@ -143,7 +143,7 @@ fn parse_contribution(buffer: &mut ParseBuffer<'_>) -> Result<DBISectionContribu
     Ok(contribution_in(buffer.take(28)?))
 }
 
-/// What the 28 bytes of an entry say.
+/// The section contribution that the 28 bytes of an entry spell.
 fn contribution_in(bytes: &[u8]) -> DBISectionContribution
     requires { 28 ≤ length bytes.now }
     ensures { result ≡ contribution_of bytes.now }

@@ -20,7 +20,7 @@ use crate::stream_index::StreamIndex;
 use pdb_container::{Error, Result, Stream, half_at, word_at};
 use std::marker::Model;
 
-/// How many bytes the header has.
+/// The number of bytes of the header.
 const HEADER_SIZE: usize = 64;
 
 /// The DBI header, as far as it is used: the age, the number of a stream (65535 for none), sizes in
@@ -39,7 +39,7 @@ pub struct DBIHeader {
     machine: u16,
 }
 
-/// The DBI stream (3): what a database says of an image.
+/// The DBI stream (3): the module list, contributions, and the optional header of a database.
 #[derive(Debug, Drop)]
 pub struct DebugInformation<'s> {
     stream: Stream<'s>,
@@ -81,7 +81,7 @@ impl<'s> DebugInformation<'s> {
         MachineType::of(self.header.machine)
     }
 
-    /// The age: how often the database was written; none where the header says 0.
+    /// The age: the number of times that the database was written; none where the header says 0.
     pub fn age(&self) -> Option<u32>
         ensures { result ≡ (if self.now.age == 0 then None else Some self.now.age) }
     {
@@ -103,7 +103,7 @@ impl<'s> DebugInformation<'s> {
     ///
     /// # Errors
     /// `UnexpectedEof` where the version isn't whole, `UnimplementedFeature` where it isn't known.
-    /// The iterator returns what is wrong with an entry.
+    /// The iterator returns the fault of an entry.
     pub fn section_contributions(&self) -> Result<DBISectionContributionIter<'_>>
         ensures { Parses (λ it. it) result (contributions_of self.now.contributions) }
     {
@@ -135,7 +135,7 @@ impl<'s> DebugInformation<'s> {
 }
 
 impl DBIHeader {
-    /// Where the list of contributions begins.
+    /// The start of the list of contributions.
     fn contributions_place(self) -> usize
         ensures place { result ≡ contributions_place self }
         ensures bound { result < 2 ^ 33 }
@@ -143,7 +143,7 @@ impl DBIHeader {
         HEADER_SIZE + self.module_list_size as usize
     }
 
-    /// Where the optional header begins.
+    /// The start of the optional header.
     fn optional_header_place(self) -> usize
         ensures place { result ≡ optional_header_place self }
         ensures bound { result < 2 ^ 40 }
@@ -156,7 +156,7 @@ impl DBIHeader {
             + self.ec_substream_size as usize
     }
 
-    /// Where the last substream ends.
+    /// The end of the last substream.
     fn end(self) -> usize
         ensures { result ≡ substreams_end self }
     {

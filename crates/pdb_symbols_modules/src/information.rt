@@ -1,5 +1,5 @@
-//! The information stream (1): what a database says of itself, and the names that it gives to
-//! streams.
+//! The information stream (1): version, signature, age and GUID of a database, and the names that
+//! it gives to streams.
 
 ghost use Rattle.std.specs.Prelude.{◌≡◌, ◌<◌, IfOk, Some, map, option_map};
 ghost use Rattle.std.specs.List.{find};
@@ -22,17 +22,17 @@ use pdb_container::{Error, ParseBuffer, RawString, Result, Stream};
 use std::alloc::Global;
 use std::marker::Model;
 
-/// How many bytes lie before the names.
+/// The number of bytes before the names.
 const HEADER_SIZE: usize = 28;
 
-/// The information stream (1): what a database says of itself.
+/// The information stream (1): version, signature, age and GUID of a database.
 #[derive(Debug, Drop)]
 pub struct PDBInformation<'s> {
     /// The version of the format.
     pub version: u32,
     /// The time at which the database was made, in seconds since 1970.
     pub signature: u32,
-    /// The age: how often it was written since.
+    /// The age: the number of times that the database was written since.
     pub age: u32,
     /// The GUID: 16 bytes that identify the database.
     pub guid: [u8; 16],
@@ -104,7 +104,7 @@ impl<'s> PDBInformation<'s> {
 pub struct StreamName<'n> {
     /// The name.
     pub name: RawString<'n>,
-    /// The stream's number; 0xffff where the table's number is no stream's.
+    /// The stream's number; 0xffff where the table's number names no stream.
     pub stream_id: StreamIndex,
 }
 

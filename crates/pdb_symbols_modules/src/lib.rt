@@ -1,4 +1,4 @@
-//! An open program database: what it says of itself, its modules with their streams and their
+//! An open program database: its information, its modules with their streams and their
 //! contributions, the sections and addresses of its image, and the tables and lists to which its
 //! streams lead. The layouts are those of LLVM's The PDB DBI Stream and The Module Information
 //! Stream, and of microsoft-pdb's dbi.h, as the pdb crate reads them.
@@ -6,7 +6,7 @@
 //! How streams are found and held may change. What a stream says, and the names of calls, which are
 //! those of the pdb crate where it has them, may not.
 //!
-//! A database is opened over a file's bytes, its modules are gone over, and of each what it holds:
+//! A database is opened over a file's bytes, its modules are gone over, and the content of each:
 //!
 //! ```rust
 //! let mut database = PDB::open(rt.alloc(), bytes)?;

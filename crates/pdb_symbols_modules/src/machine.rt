@@ -3,7 +3,7 @@
 ghost use Rattle.std.specs.Prelude.{◌≡◌};
 ghost use Rattle.pdb_symbols_modules.specs.Machine.{machine_of};
 
-/// The machine type of an image: for which machine it was made.
+/// The machine type for which an image was made.
 #[derive(Clone, Copy, Debug, PartialEq, Eq)]
 pub enum MachineType {
     /// AMD64, with pointers of 8 bytes.

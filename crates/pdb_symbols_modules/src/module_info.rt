@@ -1,4 +1,4 @@
-//! Module information: what a module's own stream holds.
+//! Module information: the content of a module's own stream.
 
 ghost use Rattle.std.specs.Prelude.{◌≡◌, ◌<◌, ◌^◌, length, IfOk, Ok};
 ghost use Rattle.pdb_container.specs.Fault.{Gives, Parses};
@@ -20,11 +20,11 @@ use std::alloc::Global;
 use std::marker::Model;
 use std::sync::Arc;
 
-/// Where the first symbol stands: after the signature.
+/// The place of the first symbol: after the signature.
 const FIRST_SYMBOL: SymbolIndex = SymbolIndex(4);
 
-/// A module's information: what its own stream holds, which depends on the stream's bytes and on
-/// the three sizes of its parts alone.
+/// A module's information: the content of its own stream, which depends on the stream's bytes and
+/// on the three sizes of its parts alone.
 #[derive(Debug, Drop)]
 pub struct ModuleInfo<'s> {
     stream: Arc<Stream<'s>>,
@@ -47,7 +47,7 @@ impl<'s> Model for ModuleInfo<'s> {
 }
 
 impl<'s> ModuleInfo<'s> {
-    /// The information of a module by its stream and the sizes of that stream's parts in bytes:
+    /// The information of a module from its stream and the sizes of that stream's parts in bytes:
     /// symbols, C11 line data, C13 line data.
     ///
     /// # Errors
@@ -73,8 +73,8 @@ impl<'s> ModuleInfo<'s> {
         }
     }
 
-    /// The information of another module that names the same stream, by the sizes of its own parts.
-    /// Both share the bytes.
+    /// The information of another module that names the same stream, with the sizes of its own
+    /// parts. Both share the bytes.
     ///
     /// # Errors
     /// `OutOfMemory`.
@@ -161,8 +161,8 @@ impl<'s> ModuleInfo<'s> {
         }
     }
 
-    /// The cross-module exports (`DEBUG_S_CROSSSCOPEEXPORTS`): types and ids that it lends; none
-    /// where it has no table of them.
+    /// The cross-module exports (`DEBUG_S_CROSSSCOPEEXPORTS`): types and ids that other modules may
+    /// use; none where it has no table of them.
     ///
     /// # Errors
     /// As [`ModuleInfo::line_program`], without memory.

@@ -21,8 +21,8 @@ use std::alloc::Global;
 use std::borrow::CowStr;
 use std::marker::Model;
 
-/// A module of the DBI stream: where its own stream is, the sizes of that stream's parts, and its
-/// names.
+/// A module of the DBI stream: the number of its own stream, the sizes of that stream's parts, and
+/// its names.
 #[derive(Debug, Drop)]
 pub struct Module<'m> {
     stream: u16,
@@ -100,28 +100,29 @@ impl<'m> Module<'m> {
         StreamIndex(self.stream)
     }
 
-    /// How many bytes of symbols stand at the stream's beginning, their signature among them.
+    /// The number of bytes of symbols at the stream's beginning, their signature among them.
     pub fn symbols_size(&self) -> u32
         ensures { result ≡ self.now.symbols_size }
     {
         self.symbols_size
     }
 
-    /// How many bytes of C11 line data (the older form) follow.
+    /// The number of bytes of C11 line data (the older form) after the symbols.
     pub fn c11_lines_size(&self) -> u32
         ensures { result ≡ self.now.c11_lines_size }
     {
         self.c11_lines_size
     }
 
-    /// How many bytes of C13 line data follow these.
+    /// The number of bytes of C13 line data after the C11 line data.
     pub fn c13_lines_size(&self) -> u32
         ensures { result ≡ self.now.c13_lines_size }
     {
         self.c13_lines_size
     }
 
-    /// What these bytes hold, as the module's own stream. `OutOfMemory`, and no other.
+    /// The module information in these bytes of the module's own stream. `OutOfMemory`, and no
+    /// other.
     pub(crate) fn info<'s>(&self, alloc: Global, stream: Stream<'s>) -> Result<ModuleInfo<'s>>
         ensures { Gives (λ m. m) ⊥ result (Ok (module_stream self.now stream.entry)) }
     {
@@ -141,7 +142,7 @@ impl<'m> Module<'m> {
     }
 }
 
-/// The modules in their order. Its value in contracts is what is still to come.
+/// The modules in their order. Its value in contracts is the modules still to come.
 #[derive(Debug, Drop)]
 pub struct ModuleIter<'m> {
     buffer: ParseBuffer<'m>,

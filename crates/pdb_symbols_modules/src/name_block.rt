@@ -83,7 +83,7 @@ fn next_place(places: &[u32], offset: u32) -> Option<u32>
     Some(places[first])
 }
 
-/// How many of ascending places lie below an offset.
+/// The number of ascending places below an offset.
 fn before(places: &[u32], offset: u32) -> usize
     requires { IsNonDecreasingBy (λ place. place) places.now }
     ensures bound { result ≤ length places.now }

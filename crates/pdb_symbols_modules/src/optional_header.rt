@@ -21,8 +21,8 @@ pub const SECTION_HEADERS: usize = 5;
 /// The place of the section headers before the image's code was moved.
 pub const ORIGINAL_SECTION_HEADERS: usize = 10;
 
-/// The number at a place of the optional debug header, counted from 0; that of no stream where the
-/// header ends before it.
+/// The number at a place of the optional debug header, counted from 0; the number that names no
+/// stream where the header ends before it.
 ///
 /// # Errors
 /// `InvalidStreamLength` where the header isn't made of whole numbers.

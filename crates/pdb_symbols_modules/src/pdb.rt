@@ -33,8 +33,8 @@ use pdb_symbol_records::SymbolTable;
 use std::alloc::Global;
 use std::marker::Model;
 
-/// An open program database (PDB) over a source, which is its value in contracts. What a call
-/// returns is a function of the source's bytes, whatever was asked before.
+/// An open program database (PDB) over a source, which is its value in contracts. The result of a
+/// call is a function of the source's bytes, whatever was asked before.
 #[derive(Drop)]
 pub struct PDB<'s, S: Source> {
     container: BigMSF<'s, S>,
@@ -99,7 +99,7 @@ impl<'s, S: Source + Drop> PDB<'s, S> {
         Ok(Some(stream))
     }
 
-    /// The information stream (1): what the database says of itself.
+    /// The information stream (1) of the database.
     ///
     /// # Errors
     /// Those of reading a stream ([`PDB::raw_stream`]); `UnexpectedEof` where it is short.
@@ -112,7 +112,7 @@ impl<'s, S: Source + Drop> PDB<'s, S> {
         PDBInformation::parse(stream)
     }
 
-    /// The DBI stream (3): what the database says of its image.
+    /// The DBI stream (3) of the database.
     ///
     /// # Errors
     /// Those of reading a stream; `UnexpectedEof` where the header or a list isn't whole,
@@ -172,7 +172,7 @@ impl<'s, S: Source + Drop> PDB<'s, S> {
         Ok(Some(stream))
     }
 
-    /// The bytes of the named stream: the one to which the database gives a name.
+    /// The bytes of the stream to which the database gives a name.
     ///
     /// # Errors
     /// `StreamNameNotFound` where no stream has the name; `UnexpectedEof` where the names aren't
@@ -235,8 +235,8 @@ impl<'s, S: Source + Drop> PDB<'s, S> {
         }
     }
 
-    /// The module information: what a module's own stream holds; `None` where the module has none.
-    /// It depends on that stream and on the sizes that the module states alone.
+    /// The module information: the content of a module's own stream; `None` where the module has
+    /// none. It depends on that stream and on the sizes that the module states alone.
     ///
     /// # Errors
     /// Those of reading a stream ([`PDB::raw_stream`]).

@@ -12,7 +12,7 @@ use Rattle.pdb_type_printing.specs.Paths.{Path, is_on}
 use Rattle.pdb_type_printing.specs.Env.{Env}
 
 -- arrays of arrays: the first dimension of each, the outer first, the innermost element's index,
--- and what that is
+-- and the form of that element
 pub record Elements : Type 0 where
   pub dimensions : List ℕ
   pub index : ℕ
@@ -23,14 +23,14 @@ unfoldable pub array_step : TypeForm → Option (ℕ × TypeIndex)
 array_step (Plain (forms.Array a)) = Some (first_or_zero a.dimensions, a.element_type)
 array_step form = None
 
--- what was read is the innermost element, or an array that leads further
+-- the element that was read, if it is the innermost one; or the elements further down an array
 abbrev pub elements_behind : (ℕ → ℕ → Result Elements Cause) → Elements → Option (ℕ × TypeIndex)
     → Result Elements Cause
 elements_behind further here None = Ok here
 elements_behind further here (Some array) = further array.0 array.1.0
 
--- from an array's element down to what is no array, with the elements passed so far and the
--- dimensions so far
+-- the elements from an array's element down to one that is no array, with the elements passed so
+-- far and the dimensions so far
 unfoldable pub elements_from : Env → ℕ → Path → List ℕ → ℕ → Result Elements Cause
 elements_from env zero passed dimensions i = Err (ByFault (CircularTypeDefinition i))
 elements_from env (suc left) passed dimensions i =

@@ -8,7 +8,7 @@ abbrev pub first_or_zero : List ℕ → ℕ
 first_or_zero [] = 0
 first_or_zero (d ∷ dimensions) = d
 
--- how many elements of n bytes make d bytes
+-- the number of elements of n bytes that make d bytes, in brackets
 abbrev pub bracket : ℕ → ℕ → Text
 bracket d n = if n == 0 then codes "[]" else codes "[" ++ (decimal (d / n) ++ codes "]")
 

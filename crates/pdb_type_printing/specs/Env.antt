@@ -1,4 +1,4 @@
--- What texts are made of.
+-- The values from which texts are made.
 use Rattle.std.specs.Prelude.{ℕ, Result}
 use Rattle.pdb_records.specs.Forms.{TypeForm}
 use Rattle.pdb_records.specs.IdForms.{IdForm}

@@ -16,6 +16,6 @@ flag_table =
 abbrev pub bits_without : ℕ → ℕ → ℕ
 bits_without x y = bit_and x (2 ^ 32 - 1 - y)
 
--- those of the six known bits that x lacks
+-- the bits that x lacks, of the six known ones
 abbrev pub missing_bits : ℕ → ℕ
 missing_bits x = bit_and (2 ^ 32 - 1 - x) 63

@@ -32,7 +32,7 @@ form_name (Plain (forms.MethodList ms)) = codes "MethodList"
 form_name (Plain forms.NotPlain) = codes "FieldList"
 form_name (FieldList members continuation) = codes "FieldList"
 
--- what is printed of a type that has no text of its own
+-- the printed text of a type that has no text of its own
 abbrev pub unhandled : TypeForm → Text → Printed
 unhandled form w = do
   w ← say (codes "unhandled type /* ") w
@@ -48,7 +48,7 @@ id_form_name (ids.StringList parts) = codes "StringList"
 id_form_name (ids.String t) = codes "String"
 id_form_name (ids.UserDefinedTypeSource t) = codes "UserDefinedTypeSource"
 
--- what is printed of an id that has no text of its own
+-- the printed text of an id that has no text of its own
 abbrev pub unhandled_id : IdForm → Text → Printed
 unhandled_id form w = do
   w ← say (codes "<unhandled id scope ") w

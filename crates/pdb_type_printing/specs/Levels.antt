@@ -1,5 +1,5 @@
--- Further levels on a path: what the path and the level below are once one is gone, and why none
--- was begun.
+-- Further levels on a path: the path and the level below once one is gone, and the cause for which
+-- none was begun.
 use Rattle.std.specs.Prelude.{◌≡◌, ℕ, false, [], Result}
 use Rattle.std.specs.Borrow.{Fml, MutBor, Lends, RestsIfErr, RattleType}
 use mir.Syntax.{named}
@@ -18,7 +18,7 @@ path_type = index_path.the_row
 abbrev pub level_type : RattleType
 level_type = the_row (record { mir = named 1; lft = [] })
 
--- a level over what its path has become
+-- a level over the path that its path has become
 abbrev pub with_path : Seen → path_type.Denot → Seen
 with_path level path = record level { path = record level.path { now = path } }
 
@@ -26,13 +26,13 @@ with_path level path = record level { path = record level.path { now = path } }
 abbrev pub LendsPath : MutBor Seen → Seen → Fml
 LendsPath level further = Lends level_type path_type level further.path (with_path level.now)
 
--- a path stays where no level was begun on it; else it ends as that level leaves it
+-- a path stays where no level was begun on it; otherwise it ends as that level leaves it
 abbrev pub RestsIfRefused : MutBor path_type.Denot → Result Seen Error → Fml
 RestsIfRefused path result =
     RestsIfErr path_type path (λ level. level.path.ghost_name) result
     (λ new. new.items ≡ path.now.items)
 
--- why no level of an index was begun on a path
+-- the cause for which no level of an index was begun on a path
 abbrev pub IsBlocked : Error → Path → ℕ → Type 0
 IsBlocked OutOfMemory path i = Unit {0}
 IsBlocked e path i = (may_enter path i ≡ false) × (e ≡ CircularTypeDefinition i)

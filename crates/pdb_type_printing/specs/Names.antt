@@ -63,7 +63,7 @@ primitive_name kinds.Bool16 = codes "bool16_t"
 primitive_name kinds.Bool32 = codes "bool32_t"
 primitive_name kinds.Bool64 = codes "bool64_t"
 
--- a kind that is meant itself, or that a pointer leads to: what is constant is the kind then
+-- a kind that is meant itself, or to which a pointer leads; `const` is said of the kind then
 abbrev pub direct_or_behind_pointer : ℕ → Bool → Text → Option Indirection → Text
 direct_or_behind_pointer flags constant name None =
     if constant then codes "const " ++ name

@@ -18,7 +18,7 @@ pub record Indices : Type 0 where
 abbrev pub is_on : Path → ℕ → Bool
 is_on path i = list_any (λ p. p == i) path
 
--- how many more indices the path may take
+-- the number of further indices that the path may take
 abbrev pub room : Path → ℕ
 room path = 1024 - length path
 
@@ -26,12 +26,12 @@ room path = 1024 - length path
 abbrev pub may_enter : Path → ℕ → Bool
 may_enter path i = nat_lt (length path) 1024 && not (is_on path i)
 
--- why an index was not put on the path, which stays as it was
+-- the cause for which an index was not put on the path, which stays as it was
 abbrev pub Blocked : Error → Path → Path → ℕ → Type 0
 Blocked OutOfMemory old new i = new ≡ old
 Blocked e old new i = (new ≡ old) × (may_enter old i ≡ false) × (e ≡ CircularTypeDefinition i)
 
--- what putting an index on the path answered and left
+-- the answer of putting an index on the path, and the path that it left
 abbrev pub Enters : {A : Type 0} → Result A Error → Path → Path → ℕ → Type 0
 Enters (Ok x) old new i = (new ≡ old ++ i ∷ []) × (may_enter old i ≡ true)
 Enters (Err e) old new i = Blocked e old new i

@@ -1,4 +1,4 @@
--- Pointers after the text of what they point to.
+-- Pointers after the text of the type to which they point.
 use Rattle.std.specs.Prelude.{ℕ, ◌-◌, Bool, true, false, ◌&&◌, ◌||◌, not, List, [], ◌∷◌, ◌++◌}
 use Rattle.std.specs.Prelude.{length, codes, Option, Some, None, if◌then◌else◌, ◌==◌, slice_get}
 use Rattle.pdb_container.specs.Bits.{has_bit}
@@ -11,7 +11,7 @@ use Rattle.pdb_type_printing.specs.Printed.{Text}
 
 -- ---- one level of pointers on pointers
 
--- a pointer, which is constant also where what was said of it before says so
+-- a pointer as one level, which is constant also where the Modifier around it says so
 abbrev pub level_of : Bool → PointerType → PointerLevel
 level_of constant t =
     record {
@@ -20,7 +20,7 @@ level_of constant t =
       leads_to_constant = false;
     }
 
--- the same pointer, to what is constant or not
+-- the same pointer, to a constant type or not
 abbrev pub leading_to : Bool → PointerLevel → PointerLevel
 leading_to constant p =
     record { mode = p.mode; is_constant = p.is_constant; leads_to_constant = constant }
@@ -44,14 +44,14 @@ is_sigil (Some b) = b == 42 || b == 38
 abbrev pub ends_in_sigil : Text → Bool
 ends_in_sigil w = is_sigil (slice_get w (length w - 1))
 
--- the keyword that what the pointer points to is constant, after a space where one may begin
+-- `const` where the type behind the pointer is constant, after a space where one may begin
 abbrev pub target_text : Bool → PointerLevel → Text
 target_text may_space p =
     if p.leads_to_constant then (if may_space then codes " const" else codes "const")
     else []
 
--- the space before the sign, under flag 8 (SPACE_BEFORE_POINTER): none after another sign, and
--- none where the pointers begin and may not begin with one
+-- the space before the sign, under flag 8 (SPACE_BEFORE_POINTER): none after another sign, and none
+-- at the beginning of pointers that may not begin with one
 abbrev pub space_text : ℕ → Bool → Bool → PointerLevel → Text
 space_text flags may_space behind_sigil p =
     if has_bit flags 8 && (p.leads_to_constant || (may_space && not behind_sigil)) then codes " "

@@ -1,4 +1,4 @@
--- Text that is put at the end of what was printed before, and how printing may end.
+-- Text that is put at the end of the text so far, and the ways in which printing may end.
 use Rattle.std.specs.Prelude.{◌≡◌, ℕ, false, List, ◌++◌, codes, Result, Ok, Err}
 use Rattle.std.specs.Fmt.{digits}
 use Rattle.pdb_container.specs.declared.error.Error.TheVariants as read
@@ -14,7 +14,7 @@ use Rattle.pdb_resolving.specs.Fault.{PdbError, fault_of}
 abbrev pub Text : Type 0
 Text = List ℕ
 
--- how printing ends, with the text so far: all is printed, or a cause came
+-- the end of printing, with the text so far: all is printed, or a cause came
 pub data Printed : Type 0 where
   Done : Text → Printed
   Stopped : Cause → Text → Printed
@@ -29,37 +29,37 @@ abbrev pub ◌>>=◌ : Printed → (Text → Printed) → Printed
 abbrev pub say : Text → Text → Printed
 say s w = Done (w ++ s)
 
--- what printing gives from no text on: a text, or what ended it
+-- the answer of printing from no text on: a text, or the cause that ended it
 abbrev pub answered : Printed → Result Text Cause
 answered (Done w) = Ok w
 answered (Stopped cause w) = Err cause
 
--- what is printed where no type has the index
+-- the printed text where no type has the index
 abbrev pub missing_type : ℕ → Text
 missing_type i = codes "<missing type 0x" ++ (digits 16 false i ++ codes ">")
 
--- what is printed for a record whose leaf has no form
+-- the printed text of a record whose leaf has no form
 abbrev pub unimplemented_kind : ℕ → Text
 unimplemented_kind leaf = codes "<unimplemented type kind 0x" ++ (digits 16 false leaf ++ codes ">")
 
--- what is printed in place of a record that can't be read; anything else ends the text
+-- the printed text in place of a record that can't be read; any other cause ends the text
 abbrev pub unread : Cause → Text → Printed
 unread (ByFault (PdbError (TypeNotFound i))) w = say (missing_type i) w
 unread (ByFault (PdbError (UnimplementedTypeKind leaf))) w = say (unimplemented_kind leaf) w
 unread cause w = Stopped cause w
 
--- a missing type ends here: what was printed before it stays, and its index is named after that
+-- a missing type ends here: the text before it stays, and its index is named after that
 abbrev pub caught : Printed → Printed
 caught (Done w) = Done w
 caught (Stopped (ByFault (PdbError (TypeNotFound i))) w) = say (missing_type i) w
 caught (Stopped cause w) = Stopped cause w
 
--- what is printed of something that was read; or else what is printed in its place
+-- the printed text of a value that was read; or else the text in its place
 abbrev pub read_or : {A : Type 0} → (Cause → Printed) → Result A Cause → (A → Printed) → Printed
 read_or fail (Ok x) more = more x
 read_or fail (Err cause) more = fail cause
 
--- ---- what a call that prints returned and left
+-- ---- the result of a call that prints, and the text that it left
 
 -- A call was ended and left this text: printing stopped so, unless memory was refused.
 abbrev pub Stops : Stop → Text → Printed → Type 0
@@ -75,7 +75,7 @@ abbrev pub Prints : {A : Type 0} → Result A Stop → Text → Printed → Type
 Prints (Ok x) new printed = printed ≡ Done new
 Prints (Err stop) new printed = Stops stop new printed
 
--- A call that is given what ended a reading returned and left this text.
+-- A call that is given the stop of a reading returned and left this text.
 abbrev pub PrintsUnread : {A : Type 0} → Stop → Result A Stop → Text → Text → Type 0
 PrintsUnread (ByError OutOfMemory) result new old = result ≡ Err (ByError OutOfMemory)
 PrintsUnread (ByError (AtPdbError read.OutOfMemory)) result new old = Unit {0}

@@ -1,4 +1,4 @@
--- What prints types, as the definitions see it.
+-- The printer of types, as the definitions see it.
 use Rattle.std.specs.Prelude.{ℕ}
 use Rattle.pdb_records.specs.Shapes.{shape}
 use Rattle.pdb_resolving.specs.declared.table.Table.{Table}
@@ -11,12 +11,12 @@ use Rattle.pdb_type_printing.specs.declared.elements.Elements.{Elements}
 use Rattle.pdb_type_printing.specs.declared.asker.Asker.{Asker}
 use Rattle.pdb_type_printing.specs.Env.{Env}
 
--- what types and ids are read from, and the flags
+-- the parts from which types and ids are read, and the flags
 pub record Formatting (P : Type 0) : Type 0 where
   pub reading : Reading P
   pub flags : ℕ
 
--- what texts are made of in the module with that index
+-- the values from which texts are made in the module with that index
 abbrev pub env_of : {P : Type 0} → (P → Provided) → Formatting P → ℕ → Env
 env_of provided f asking = record {
   read = type_at (parts_by provided f.reading) asking;
@@ -25,11 +25,11 @@ env_of provided f asking = record {
   flags = f.flags;
 }
 
--- what texts are made of in the module that asks
+-- the values from which texts are made in the asking module
 abbrev pub env_for : {P : Type 0} → (P → Provided) → Formatting P → Asker → Env
 env_for provided f asker = env_of provided f asker.module_index
 
--- what a formatter stores, with one more table of a module stored as failed
+-- the values that a formatter stores, with one more table of a module stored as failed
 abbrev pub with_failed : {P : Type 0} → Formatting P → Table → Formatting P
 with_failed f table = record f { reading = reading_with_failed f.reading table }
 

@@ -1,4 +1,4 @@
--- What a call of the printer appends.
+-- The text that a call of the printer appends.
 use Rattle.std.specs.Prelude.{String, Result, string_bytes}
 use Rattle.pdb_resolving.specs.declared.stop.Stop.{Stop}
 use Rattle.pdb_resolving.specs.Resolving.{Provided}
@@ -9,7 +9,7 @@ use Rattle.pdb_type_printing.specs.Env.{Env}
 use Rattle.pdb_type_printing.specs.Printing.{Formatting, env_for}
 use Rattle.pdb_type_printing.specs.Types.{Piece, visiting}
 
--- A call appends a text that is made in the module that asks.
+-- A call appends a text that is made in the asking module.
 abbrev pub AppendsText : {P A Z : Type 0} → (P → Provided) → Formatting P → Asker
     → (Env → Text → Printed) → String Z → String Z → Result A Stop → Type 0
 AppendsText provided f asker text before after result =

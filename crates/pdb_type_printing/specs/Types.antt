@@ -31,30 +31,31 @@ use Rattle.pdb_type_printing.specs.Arguments.{comma}
 use Rattle.pdb_type_printing.specs.Brackets.{brackets}
 use Rattle.pdb_type_printing.specs.Arrays.{Elements, elements_of}
 
--- what an index is printed for
+-- the task for which an index is printed
 pub data Task : Type 0 where
   -- the type on its own
   Whole : Task
-  -- what pointers lead to: those before the last one, the outermost first, and the last one
+  -- the type to which pointers lead: those before the last one, the outermost first, and the last
+  -- one
   PointedTo : List PointerLevel → PointerLevel → Task
-  -- what pointers point to, through a Modifier
+  -- the type to which pointers point, through a Modifier
   PointedModified : List PointerLevel → PointerLevel → Task
-  -- what a Modifier makes constant, or not
+  -- the type that a Modifier makes constant, or not
   Modified : (constant : Bool) → Task
-  -- the arguments of a method, in brackets: its class, its pointer to the object, and whether it is
-  -- said that the object is constant
+  -- the arguments of a method, in brackets: its class, its pointer to the object, and whether the
+  -- text says that the object is constant
   MethodArguments : TypeIndex → Option TypeIndex → (says_constant : Bool) → Task
 
 -- the arguments of a method's type, whose argument list is printed for it
 abbrev pub arguments_of : MemberFunctionType → Bool → Task
 arguments_of t says_constant = MethodArguments t.class_type t.this_pointer_type says_constant
 
--- how an index is printed for a task: the path so far, the index, the text so far
+-- the printing of an index for a task: the path so far, the index, the text so far
 abbrev pub Visit : Type 0
 Visit = Task → Path → ℕ → Text → Printed
 
--- A piece of the text of types: what texts are made of, how indices are printed, the path so far,
--- and the text so far.
+-- A piece of the text of types: from the values of an Env, the printing of indices, the path so
+-- far, and the text so far.
 abbrev pub Piece : Type 0
 Piece = Env → Visit → Path → Text → Printed
 
@@ -69,7 +70,7 @@ abbrev pub shown_text : Option TypeIndex → Piece
 shown_text None env visit path w = Done w
 shown_text (Some t) env visit path w = visit Whole path t.0 w >>= say (codes " ")
 
--- the type that a function returns, and a space; nothing for a constructor
+-- the type that a function returns, and a space; no text for a constructor
 abbrev pub returned : Option TypeIndex → FunctionAttributes → Piece
 returned None attributes env visit path w = Done w
 returned (Some t) attributes env visit path w =
@@ -110,7 +111,7 @@ with_extra (Some t) ts = t ∷ ts
 abbrev pub extra_and_arguments : Option TypeIndex → List TypeIndex → Piece
 extra_and_arguments extra ts = arguments (with_extra extra ts)
 
--- the arguments of a method in brackets, and that its object is constant
+-- the arguments of a method in brackets, and `const` where it is said of a constant object
 abbrev pub in_brackets : Bool → List TypeIndex → This → Piece
 in_brackets says_constant ts this env visit path w = do
   w ← say (codes "(") w
@@ -174,9 +175,9 @@ record_text form env visit path w = plain_text form env visit path w
 abbrev pub record_caught : TypeForm → Piece
 record_caught form env visit path w = caught (record_text form env visit path w)
 
--- ---- a record that pointers point to
+-- ---- a record to which pointers point
 
--- what pointers lead to, with the pointers: the outermost is the first of them
+-- the type to which pointers lead, with the pointers: the outermost is the first of them
 abbrev pub pointed_text : List PointerLevel → TypeForm → Piece
 pointed_text pointers (Plain (forms.MemberFunction t)) env visit path w = do
   w ← returned (Some t.return_type) t.attributes env visit path w
@@ -196,7 +197,7 @@ pointed_text pointers form env visit path w = do
   w ← record_caught form env visit path w
   say (pointers_text env.flags true (ends_in_sigil w) (reverse pointers)) w
 
--- ---- a record by what it was read for
+-- ---- a record by the task for which it was read
 
 -- another record than a pointer or a type without a record, under a Modifier
 abbrev pub modified_text : Bool → TypeForm → Piece
@@ -204,7 +205,7 @@ modified_text constant form env visit path w = do
   w ← (if constant then say (codes "const ") w else Done w)
   record_caught form env visit path w
 
--- the text of a record whose index is on the path, by what it was read for
+-- the text of a record whose index is on the path, by the task for which it was read
 abbrev pub visited : Task → TypeForm → Piece
 visited Whole form env visit path w = record_caught form env visit path w
 visited (PointedTo before p) (Plain (forms.Pointer t)) env visit path w =
@@ -247,7 +248,7 @@ visit env zero task path i w = entering env false task i w
 visit env (suc left) task path i w = entering env (not (is_on path i)) task i w
     (λ form. visited task form env (visit env left) (path ++ i ∷ []) w)
 
--- an index as its path leaves room, which ends at 1,024 indices
+-- an index, with the room that its path leaves up to 1,024 indices
 abbrev pub visiting : Env → Path → Visit
 visiting env path = visit env (room path)
 
@@ -277,11 +278,11 @@ method_type t = plain_text (Plain (forms.MemberFunction t))
 abbrev pub procedure_type : ProcedureType → Piece
 procedure_type t = plain_text (Plain (forms.Procedure t))
 
--- a pointer, which is constant also where that is said of it
+-- a pointer, which is constant also where the Modifier around it says so
 abbrev pub pointer_type : Bool → PointerType → Piece
 pointer_type constant t = indexed (PointedTo [] (level_of constant t)) t.underlying_type
 
--- what the last of some pointers leads to, with all of them
+-- the type to which the last of some pointers leads, with all of them
 abbrev pub pointee : Vec PointerLevel → PointerLevel → TypeIndex → Piece
 pointee before last = indexed (PointedTo before.items last)
 
@@ -289,7 +290,7 @@ pointee before last = indexed (PointedTo before.items last)
 abbrev pub pointee_inside : Vec PointerLevel → PointerLevel → TypeIndex → Piece
 pointee_inside before last index = inside_text (PointedTo before.items last) index.0
 
--- what the last of some pointers leads to through a Modifier, with all of them
+-- the type to which the last of some pointers leads through a Modifier, with all of them
 abbrev pub modified_pointee : Vec PointerLevel → PointerLevel → TypeIndex → Piece
 modified_pointee before last = indexed (PointedModified before.items last)
 
@@ -297,7 +298,7 @@ modified_pointee before last = indexed (PointedModified before.items last)
 abbrev pub modified_pointee_inside : Vec PointerLevel → PointerLevel → TypeIndex → Piece
 modified_pointee_inside before last index = inside_text (PointedModified before.items last) index.0
 
--- what pointers lead to, with the pointers
+-- the type to which pointers lead, with the pointers
 abbrev pub pointed_type : List PointerLevel → TypeData → Piece
 pointed_type pointers t = pointed_text pointers (shape t)
 
@@ -309,7 +310,7 @@ pointed_method pointers t = pointed_text pointers (Plain (forms.MemberFunction t
 abbrev pub pointed_procedure : List PointerLevel → ProcedureType → Piece
 pointed_procedure pointers t = pointed_text pointers (Plain (forms.Procedure t))
 
--- what a Modifier is put on
+-- the type under a Modifier
 abbrev pub modified : Bool → TypeIndex → Piece
 modified constant = indexed (Modified constant)
 
@@ -317,7 +318,7 @@ modified constant = indexed (Modified constant)
 abbrev pub modified_inside : Bool → TypeIndex → Piece
 modified_inside constant index = inside_text (Modified constant) index.0
 
--- what a Modifier is put on: neither a pointer nor a type without a record
+-- the type under a Modifier: neither a pointer nor a type without a record
 abbrev pub modified_type : Bool → TypeData → Piece
 modified_type constant t = modified_text constant (shape t)
 

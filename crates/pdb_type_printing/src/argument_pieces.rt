@@ -1,4 +1,4 @@
-//! What stands between arguments, copies of one, and whether a flag leaves them out.
+//! The text between arguments, copies of one, and whether a flag leaves them out.
 
 ghost use Rattle.std.specs.Prelude.{◌≡◌, ◌++◌, string_bytes};
 ghost use Rattle.pdb_container.specs.Bits.{has_bit};
@@ -10,7 +10,7 @@ use crate::text::emit;
 use bitflags::Flags;
 use pdb_resolving::stop::Result;
 
-/// Appends what stands between arguments: a comma, and a space where the flags ask for it.
+/// Appends the text between arguments: a comma, and a space where the flags ask for it.
 ///
 /// # Errors
 /// `OutOfMemory`.
@@ -27,7 +27,7 @@ pub fn emit_comma(w: &mut String, flags: TypeFormatterFlags) -> Result<()>
     )
 }
 
-/// Appends an argument's text that many times, with what stands between arguments before each.
+/// Appends an argument's text that many times, with a comma before each.
 ///
 /// # Errors
 /// `OutOfMemory`.

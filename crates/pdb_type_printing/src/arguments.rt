@@ -115,7 +115,7 @@ impl<'a, 's, P: ModuleProvider> TypePrinter<'a, 's, P> {
 
     /// Appends an argument and that many more of the same, with a comma before each of these. No
     /// sign of a pointer or reference stands before the first: the text of a type depends on that
-    /// alone of the text before it, and so each has the text of a type that stands at the very
+    /// sign alone of the text before it, and so each has the text of a type that stands at the very
     /// beginning.
     #[cycle(printing)]
     #[inline(always)]

@@ -1,12 +1,12 @@
-//! Who asks for a text.
+//! The asker of a text: its module and allocator.
 
 use std::alloc::Global;
 
-/// The module as which indices are meant, and where memory comes from.
+/// The asking module, and the allocator.
 #[derive(Clone, Copy)]
 pub struct Asker {
-    /// Where memory comes from.
+    /// The allocator, from which memory comes.
     pub alloc: Global,
-    /// The number of the module as which indices are meant, counted from 0.
+    /// The number of the asking module, counted from 0.
     pub module_index: usize,
 }

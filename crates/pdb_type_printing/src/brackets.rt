@@ -17,7 +17,7 @@ pub fn first_or_zero(dimensions: &[u32]) -> u32
     }
 }
 
-/// Appends how many elements of `element` bytes make `size` bytes.
+/// Appends the number of elements of `element` bytes that make `size` bytes, in brackets.
 fn emit_bracket(w: &mut String, size: u64, element: u64) -> Result<()>
     ensures { Prints result (string_bytes w.new) (say (bracket size element) (string_bytes w.old)) }
 {

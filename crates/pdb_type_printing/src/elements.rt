@@ -8,11 +8,11 @@ use crate::brackets::first_or_zero;
 use pdb_container::TypeIndex;
 use pdb_records::TypeData;
 
-/// How many elements a chain of arrays may have: as many as a path of a type's text has
+/// The number of elements that a chain of arrays may have: as many as a path of a type's text has
 /// (`MAX_LENGTH` of `index_path`).
 pub const MAX_ELEMENTS: u32 = 1024;
 
-/// Arrays of arrays, down to what is no array.
+/// Arrays of arrays, down to the innermost element, which is no array.
 #[derive(Drop)]
 pub struct Elements<'t> {
     /// The first dimension of each array in bytes, the outer first.
@@ -23,7 +23,7 @@ pub struct Elements<'t> {
     pub found: TypeData<'t>,
 }
 
-/// Of an array its first dimension and its element.
+/// The first dimension and the element of an array.
 #[tactic(auto, unfolding(crate::specs::Arrays::array_step))]
 pub fn array_step(found: &TypeData<'_>) -> Option<(u32, TypeIndex)>
     ensures { result ≡ array_step (shape found.now) }

@@ -156,7 +156,7 @@ impl BitXorAssign for TypeFormatterFlags {
     }
 }
 
-/// The flags of the first that aren't among those of the second.
+/// The flags of the first set that aren't among those of the second.
 impl Sub for TypeFormatterFlags {
     ghost use Rattle.pdb_type_printing.specs.FlagTable.{bits_without};
 

@@ -8,15 +8,15 @@ ghost use Rattle.pdb_type_printing.specs.PathPlaces.{ArePlaced, is_placed};
 use std::alloc::{AllocError, Global};
 use std::marker::Model;
 
-/// How many indices a path may have. So many levels fit in a stack of 4 MB: of sixteen kinds of
-/// nests (`tests/stack.py`) the one that needs most takes 3.9 MB. docs/COSTS.md has the stack, and
-/// the time that so many levels can take.
+/// The number of indices that a path may have. So many levels fit in a stack of 4 MB: of sixteen
+/// kinds of nests (`tests/stack.py`) the one that needs most takes 3.9 MB. docs/COSTS.md has the
+/// stack, and the time that so many levels can take.
 const MAX_LENGTH: usize = 1024;
 
-/// How many indices a path has at most that gets no table.
+/// The greatest number of indices of a path that gets no table.
 const SHORT_LENGTH: usize = 32;
 
-/// How many numbers there are of an index's low bits, which is how long a table is.
+/// The count of numbers that an index's low bits can make, which is the length of a table.
 const TABLE_LENGTH: u32 = 4096;
 
 /// Whether an index is on a path.
@@ -63,7 +63,8 @@ fn table_of(alloc: Global, path: &[u32]) -> Result<Vec<u16>, AllocError>
     Ok(table)
 }
 
-/// The indices that led to a type or an id, the first asked for first. There are at most 1,024.
+/// The indices that led to a type or an id, in the order in which they were asked for. There are at
+/// most 1,024.
 ///
 /// A long path has a table, so that looking for an index takes no longer the longer the path is.
 /// By the low bits of an index the table has the first place at which an index has them. If the
@@ -112,14 +113,14 @@ impl IndexPath {
         }
     }
 
-    /// The indices, the first asked for first.
+    /// The indices, in the order in which they were asked for.
     pub fn as_slice(&self) -> &[u32]
         ensures { result.now ≡ self.now.items }
     {
         self.indices.as_slice()
     }
 
-    /// How many indices there are.
+    /// The number of indices.
     pub fn len(&self) -> usize
         ensures { result ≡ length self.now.items }
     {

@@ -1,6 +1,6 @@
-//! Printing types: the texts of types on their own, with what stands before and after them; and
-//! what these texts are made of: names, pointers, brackets, what stands between arguments, the
-//! flags that say what is printed and how, and the path of indices to a type.
+//! Printing types: the texts of types on their own, with the texts before and after them; and the
+//! pieces of these texts: names, pointers, brackets, the text between arguments, the flags that say
+//! what is printed and how, and the path of indices to a type.
 //!
 //! How a type is gone through, and how a piece is appended, may change. A text (`specs/Types`) may
 //! not, but for a difference from the ported crate that docs/DIFFERENCES.md names, nor the numbers

@@ -178,7 +178,7 @@ fn form_name(found: &TypeData<'_>) -> &'static str
     }
 }
 
-/// Appends what stands for a type that has no text of its own.
+/// Appends the text in place of a type that has no text of its own.
 ///
 /// # Errors
 /// `OutOfMemory`.
@@ -206,7 +206,7 @@ fn id_form_name(found: &IdData<'_>) -> &'static str
     }
 }
 
-/// Appends what stands for an id that has no text of its own.
+/// Appends the text in place of an id that has no text of its own.
 ///
 /// # Errors
 /// `OutOfMemory`.
@@ -219,7 +219,7 @@ pub fn emit_unhandled_id(w: &mut String, found: &IdData<'_>) -> Result<()>
     emit(w, ">::")
 }
 
-/// Whether there is one hexadecimal digit or more and nothing else, of a value below 2^32.
+/// Whether the digits are one hexadecimal digit or more and nothing else, of a value below 2^32.
 fn is_number(digits: &[u8]) -> bool
     ensures { result ≡ is_number digits.now }
 {

@@ -26,7 +26,7 @@ pub fn emit_static(w: &mut String, flags: TypeFormatterFlags, this: Option<TypeI
     emit(w, "static ")
 }
 
-/// Appends what says that a method's object is constant, if it is.
+/// Appends `const` where a method's object is constant.
 ///
 /// # Errors
 /// `OutOfMemory`.
@@ -41,9 +41,9 @@ pub fn emit_constant_object(w: &mut String, is_constant: bool) -> Result<()>
     Ok(())
 }
 
-/// Whether a method's object is constant, by the type to which the pointer to it leads, which isn't
-/// the class itself; and the pointer as an extra first argument, where that type is no Modifier of
-/// the class.
+/// Whether a method's object is constant, by the type to which the pointer to the object leads,
+/// which isn't the class itself; and the pointer as an extra first argument, where that type is no
+/// Modifier of the class.
 pub fn this_behind(
     class: TypeIndex,
     this: TypeIndex,

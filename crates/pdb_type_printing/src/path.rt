@@ -35,12 +35,12 @@ pub(crate) fn enter(path: &mut IndexPath, index: u32) -> Result<()>
     Ok(())
 }
 
-/// A level of indices on a path: what was inserted at this level is taken back when the level is
-/// dropped.
+/// A level of indices on a path: the indices inserted at this level are taken back when the level
+/// is dropped.
 pub struct Seen<'a> {
     /// The path, with the indices of all levels.
     pub path: &'a mut IndexPath,
-    /// How many indices the path had when the level began.
+    /// The number of indices that the path had when the level began.
     pub level: usize,
 }
 

@@ -1,4 +1,4 @@
-//! Pointers after the text of what they point to.
+//! Pointers after the text of the type to which they point.
 
 ghost use Rattle.std.specs.Prelude.{◌≡◌, ◌++◌, reverse, string_bytes};
 ghost use Rattle.pdb_type_printing.specs.Printed.{Prints, say};
@@ -15,11 +15,11 @@ use pdb_resolving::stop::Result;
 /// One of several pointers on one another.
 #[derive(Clone, Copy)]
 pub struct PointerLevel {
-    /// Whether it is a pointer, a reference, or one to a member.
+    /// The mode: a pointer, a reference, or one to a member.
     pub mode: PointerMode,
     /// Whether the pointer itself is constant.
     pub is_constant: bool,
-    /// Whether what it leads to is constant.
+    /// Whether the type to which it leads is constant.
     pub leads_to_constant: bool,
 }
 
@@ -34,7 +34,7 @@ pub fn level_of(is_constant: bool, pointer: &PointerType) -> PointerLevel
     }
 }
 
-/// The level with what it leads to being constant or not.
+/// The level as one that leads to a constant type or not.
 pub fn leading_to(is_constant: bool, pointer: PointerLevel) -> PointerLevel
     ensures { result ≡ leading_to is_constant pointer }
 {
@@ -65,7 +65,7 @@ pub fn ends_in_sigil(text: &[u8]) -> bool
     }
 }
 
-/// Appends one pointer. A space may begin it where `may_space`; the sign of another one stands
+/// Appends one pointer. A space may begin it where `may_space`; another pointer's sign stands
 /// before it where `is_behind_sigil`.
 fn emit_pointer(
     w: &mut String,

@@ -1,4 +1,4 @@
-//! What prints types, and what it reads.
+//! The printer of types, and its readings.
 
 ghost use Rattle.std.specs.Prelude.{◌≡◌, ◌∷◌, [], Ok};
 ghost use Rattle.pdb_records.specs.Shapes.{shape, array_form};
@@ -45,7 +45,7 @@ impl<'a, 's, P: ModuleProvider> Drop for TypePrinter<'a, 's, P> {
 }
 
 impl<'a, 's, P: ModuleProvider> TypePrinter<'a, 's, P> {
-    /// A printer of what a reader reads, with a formatter's flags.
+    /// A printer over a reader, with a formatter's flags.
     pub fn new(reader: ItemReader<'a, 's, P>, flags: TypeFormatterFlags) -> TypePrinter<'a, 's, P>
         ensures { result ≡ record { reading = reader.entry; flags = flags.bits } }
     {
@@ -59,7 +59,7 @@ impl<'a, 's, P: ModuleProvider> TypePrinter<'a, 's, P> {
         self.flags
     }
 
-    /// The type with that index, as the module that asks names it.
+    /// The type with that index, as the asking module names it.
     ///
     /// # Errors
     /// Those of [`ItemReader::read_type`].
@@ -72,7 +72,7 @@ impl<'a, 's, P: ModuleProvider> TypePrinter<'a, 's, P> {
             .read_type(asker.alloc, asker.module_index, index)
     }
 
-    /// The id with that index, as the module that asks names it.
+    /// The id with that index, as the asking module names it.
     ///
     /// # Errors
     /// Those of [`ItemReader::read_id`].
@@ -84,7 +84,7 @@ impl<'a, 's, P: ModuleProvider> TypePrinter<'a, 's, P> {
         self.reader.read_id(asker.alloc, asker.module_index, index)
     }
 
-    /// The size in bytes of the type with that index, as the module that asks names it.
+    /// The size in bytes of the type with that index, as the asking module names it.
     ///
     /// # Errors
     /// `OutOfMemory`, and no other.
@@ -96,7 +96,7 @@ impl<'a, 's, P: ModuleProvider> TypePrinter<'a, 's, P> {
         self.reader.size(asker.alloc, asker.module_index, index)
     }
 
-    /// The arrays that begin with this one, down to what is no array.
+    /// The arrays that begin with this one, down to the innermost element, which is no array.
     ///
     /// # Errors
     /// `CircularTypeDefinition` where an element comes again, and after 1,024 elements; the fault
@@ -135,8 +135,8 @@ impl<'a, 's, P: ModuleProvider> TypePrinter<'a, 's, P> {
     }
 
     /// Whether a method's object is constant, and the pointer to it as an extra first argument,
-    /// where that isn't plainly one to the class: the class itself or a Modifier of it. A static
-    /// method has no such pointer.
+    /// where that pointer isn't plainly one to the class: the class itself or a Modifier of it. A
+    /// static method has no such pointer.
     pub(crate) fn this_of(
         &mut self,
         asker: Asker,
@@ -156,7 +156,7 @@ impl<'a, 's, P: ModuleProvider> TypePrinter<'a, 's, P> {
         }
     }
 
-    /// The pointer to a method's object, by the index that it points to.
+    /// The pointer to a method's object, by the index to which it points.
     fn this_to(
         &mut self,
         asker: Asker,

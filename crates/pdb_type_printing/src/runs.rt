@@ -6,29 +6,29 @@ ghost use Rattle.std.specs.List.{prefix_len};
 
 use pdb_container::TypeIndex;
 
-/// How many indices stand on a path at most where an argument is copied. Real names read no more
-/// than 29 records (docs/COSTS.md), and what prints a copy takes stack that deep nests need.
+/// The greatest number of indices on a path where an argument is copied. Real names read no more
+/// than 29 records (docs/COSTS.md), and printing a copy takes stack that deep nests need.
 const COPIED_DEPTH: usize = 64;
 
-/// An argument, how many right after it repeat it, and the arguments after these.
+/// An argument, the number of those right after it that repeat it, and the arguments after these.
 #[derive(Clone, Copy)]
 pub struct ArgumentRun<'a> {
     /// The argument.
     pub argument: TypeIndex,
-    /// How many right after it are the same type.
+    /// The number of arguments right after it that are the same type.
     pub repeats: usize,
-    /// The arguments after those.
+    /// The arguments after the repeated ones.
     pub rest: &'a [TypeIndex],
 }
 
-/// How many arguments at the head of a list are that type.
+/// The number of arguments at the head of a list that are that type.
 fn count_repeats(argument: TypeIndex, list: &[TypeIndex]) -> usize
     ensures { result ≡ prefix_len (λ next. next.0 == argument.0) list.now }
 {
     list.iter().take_while(|next| next.0 == argument.0).count()
 }
 
-/// An argument, with that many after it as those that repeat it.
+/// An argument, with that many after it as its repeats.
 fn run_with(argument: TypeIndex, more: &[TypeIndex], repeats: usize) -> ArgumentRun<'_>
     requires { repeats ≤ length more.now }
     ensures argument { result.argument ≡ argument }
@@ -42,7 +42,7 @@ fn run_with(argument: TypeIndex, more: &[TypeIndex], repeats: usize) -> Argument
     }
 }
 
-/// An argument, with those at the head of the arguments after it that repeat it.
+/// An argument, with the arguments right after it that repeat it.
 fn run_of(argument: TypeIndex, more: &[TypeIndex]) -> ArgumentRun<'_>
     ensures argument { result.argument ≡ argument }
     ensures repeats { result.repeats ≡ prefix_len (λ next. next.0 == argument.0) more.now }
@@ -52,7 +52,7 @@ fn run_of(argument: TypeIndex, more: &[TypeIndex]) -> ArgumentRun<'_>
     run_with(argument, more, repeats)
 }
 
-/// The first of some arguments, and those after it.
+/// The first of some arguments, and the arguments after it.
 pub fn first_and_more(list: &[TypeIndex]) -> Option<(TypeIndex, &[TypeIndex])>
     ensures { MatchOption result (list.now ≡ []) (λ r. list.now ≡ r.0 ∷ r.1.now) }
 {
@@ -62,9 +62,9 @@ pub fn first_and_more(list: &[TypeIndex]) -> Option<(TypeIndex, &[TypeIndex])>
     Some((*first, more))
 }
 
-/// An argument, with those at the head of the arguments after it that repeat it, where it stands
-/// after so few indices on a path that it may be copied; else with none. What prints a copy takes
-/// more of the stack, and so it isn't used at each level of a deep nest.
+/// An argument, with the arguments right after it that repeat it, where it stands after so few
+/// indices on a path that it may be copied; otherwise with none. Printing a copy takes more of the
+/// stack, and so it isn't used at each level of a deep nest.
 pub fn run_within(argument: TypeIndex, more: &[TypeIndex], depth: usize) -> ArgumentRun<'_>
     ensures argument { result.argument ≡ argument }
     ensures list { more.now ≡ replicate result.repeats argument ++ result.rest.now }
@@ -75,7 +75,7 @@ pub fn run_within(argument: TypeIndex, more: &[TypeIndex], depth: usize) -> Argu
     run_of(argument, more)
 }
 
-/// The first of some arguments, with those that repeat it, as [`run_within`] gives them.
+/// The first of some arguments, with the arguments that repeat it, as [`run_within`] gives them.
 pub fn first_run(list: &[TypeIndex], depth: usize) -> Option<ArgumentRun<'_>>
     ensures { MatchOption result (list.now ≡ [])
         (λ run. list.now ≡ run.argument ∷ (replicate run.repeats run.argument ++ run.rest.now)) }

@@ -19,7 +19,7 @@ pub fn emit(w: &mut String, text: &str) -> Result<()>
     Ok(())
 }
 
-/// Appends that no type has the index.
+/// Appends the text where no type has the index.
 ///
 /// # Errors
 /// `OutOfMemory`.
@@ -30,7 +30,7 @@ pub fn emit_missing(w: &mut String, index: u32) -> Result<()>
     Ok(())
 }
 
-/// Appends that the leaf has no form.
+/// Appends the text where the leaf has no form.
 fn emit_unimplemented(w: &mut String, leaf: u16) -> Result<()>
     ensures { Prints result (string_bytes w.new)
         (say (unimplemented_kind leaf) (string_bytes w.old)) }
@@ -39,7 +39,7 @@ fn emit_unimplemented(w: &mut String, leaf: u16) -> Result<()>
     Ok(())
 }
 
-/// Appends what stands for a type or an id that is missing, or whose leaf has no form.
+/// Appends the text in place of a type or an id that is missing, or whose leaf has no form.
 ///
 /// # Errors
 /// Any other cause that ended the reading is returned as it is; `OutOfMemory`.

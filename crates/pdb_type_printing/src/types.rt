@@ -203,7 +203,8 @@ impl<'a, 's, P: ModuleProvider> TypePrinter<'a, 's, P> {
         }
     }
 
-    /// Appends a pointer and what it leads to; it is constant also where that is said of it.
+    /// Appends a pointer and the type to which it leads; the pointer is constant also where
+    /// `is_constant`.
     #[cycle(printing)]
     #[inline(never)]
     fn emit_pointer(
@@ -383,7 +384,7 @@ impl<'a, 's, P: ModuleProvider> TypePrinter<'a, 's, P> {
         self.emit_argument_list_inside(asker, w, t, says_constant, &mut level)
     }
 
-    /// Appends what [`Self::emit_argument_list`] appends, once the argument list is on the path.
+    /// Appends the text of [`Self::emit_argument_list`], once the argument list is on the path.
     #[cycle(printing)]
     #[tactic(auto, using(crate::proofs::Failing::fails_stops))]
     fn emit_argument_list_inside(
@@ -407,8 +408,8 @@ impl<'a, 's, P: ModuleProvider> TypePrinter<'a, 's, P> {
         self.emit_in_brackets(asker, w, says_constant, &list.arguments, this, seen)
     }
 
-    /// Appends arguments in brackets, the extra one first if there is one, and that the object is
-    /// constant.
+    /// Appends arguments in brackets, the extra one first if there is one, and `const` where it is
+    /// said of a constant object.
     #[cycle(printing)]
     fn emit_in_brackets(
         &mut self,
@@ -432,7 +433,7 @@ impl<'a, 's, P: ModuleProvider> TypePrinter<'a, 's, P> {
         emit_constant_object(w, is_constant && says_constant)
     }
 
-    /// Appends what a Modifier is put on.
+    /// Appends the type under a Modifier.
     #[cycle(printing)]
     fn emit_modified(
         &mut self,
@@ -453,7 +454,7 @@ impl<'a, 's, P: ModuleProvider> TypePrinter<'a, 's, P> {
         self.emit_modified_inside(asker, w, index, is_constant, &mut level)
     }
 
-    /// Appends what [`Self::emit_modified`] appends, once its index is on the path.
+    /// Appends the text of [`Self::emit_modified`], once its index is on the path.
     #[cycle(printing)]
     fn emit_modified_inside(
         &mut self,
@@ -496,7 +497,7 @@ impl<'a, 's, P: ModuleProvider> TypePrinter<'a, 's, P> {
         self.emit_type(asker, w, found, seen)
     }
 
-    /// Appends what the last of some pointers leads to, with all of them.
+    /// Appends the type to which the last of some pointers leads, with all of them.
     #[cycle(printing)]
     fn emit_pointee(
         &mut self,
@@ -518,7 +519,7 @@ impl<'a, 's, P: ModuleProvider> TypePrinter<'a, 's, P> {
         self.emit_pointee_inside(asker, w, index, before, last, &mut level)
     }
 
-    /// Appends what [`Self::emit_pointee`] appends, once its index is on the path.
+    /// Appends the text of [`Self::emit_pointee`], once its index is on the path.
     #[cycle(printing)]
     fn emit_pointee_inside(
         &mut self,
@@ -562,7 +563,7 @@ impl<'a, 's, P: ModuleProvider> TypePrinter<'a, 's, P> {
         }
     }
 
-    /// Appends what a Modifier is put on to which the last of some pointers leads, with all of
+    /// Appends the type under a Modifier to which the last of some pointers leads, with all of
     /// them.
     #[cycle(printing)]
     fn emit_pointee_modified(
@@ -585,7 +586,7 @@ impl<'a, 's, P: ModuleProvider> TypePrinter<'a, 's, P> {
         self.emit_pointee_modified_inside(asker, w, index, before, last, &mut level)
     }
 
-    /// Appends what [`Self::emit_pointee_modified`] appends, once its index is on the path.
+    /// Appends the text of [`Self::emit_pointee_modified`], once its index is on the path.
     #[cycle(printing)]
     fn emit_pointee_modified_inside(
         &mut self,
@@ -619,7 +620,7 @@ impl<'a, 's, P: ModuleProvider> TypePrinter<'a, 's, P> {
         }
     }
 
-    /// Appends what pointers lead to, with the pointers.
+    /// Appends the type to which pointers lead, with the pointers.
     #[cycle(printing)]
     fn emit_pointed(
         &mut self,

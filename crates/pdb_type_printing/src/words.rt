@@ -11,7 +11,7 @@ use pdb_container::TypeIndex;
 use pdb_records::FunctionAttributes;
 use pdb_resolving::stop::Result;
 
-/// Appends what stands for the name in a method's type on its own.
+/// Appends the text in place of the name in a method's type on its own.
 ///
 /// # Errors
 /// `OutOfMemory`.
@@ -21,8 +21,8 @@ pub fn emit_bare_method(w: &mut String) -> Result<()>
     emit(w, "()")
 }
 
-/// Appends what stands for the name in a function's type on its own, and the bracket before its
-/// arguments.
+/// Appends the text in place of the name in a function's type on its own, and the bracket before
+/// its arguments.
 ///
 /// # Errors
 /// `OutOfMemory`.
@@ -32,7 +32,7 @@ pub fn emit_bare_function(w: &mut String) -> Result<()>
     emit(w, "()(")
 }
 
-/// Appends what says that a type is constant, if it is.
+/// Appends `const` where a type is constant.
 ///
 /// # Errors
 /// `OutOfMemory`.
@@ -47,7 +47,7 @@ pub fn emit_constant(w: &mut String, is_constant: bool) -> Result<()>
     Ok(())
 }
 
-/// Appends what stands after a class or a scope, before the name of what it holds.
+/// Appends the text between a class or a scope and the name of its member.
 ///
 /// # Errors
 /// `OutOfMemory`.
@@ -57,7 +57,7 @@ pub fn emit_scope_end(w: &mut String) -> Result<()>
     emit(w, "::")
 }
 
-/// Appends what stands between two strings of a list: it ends the one and begins the other.
+/// Appends the text between two strings of a list: it ends the one and begins the other.
 ///
 /// # Errors
 /// `OutOfMemory`.

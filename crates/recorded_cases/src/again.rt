@@ -4,8 +4,9 @@
 //! KIND is `context`, `formatter`, or `symbolizer` for the context of a `Symbolizer`. DATABASE is
 //! the file of a program database itself, never a text of one. FLAGS is a number, which counts for
 //! nothing with `symbolizer`, whose flags are the default ones. A line of FILE is a question about
-//! the database: what is asked, the index of a module, and an index, an RVA or an offset, as
-//! `texts.rt` describes them. It is printed with its answer, or with `fault: ` and the fault.
+//! the database: a word for what is asked, the index of a module, and an index, an RVA or an
+//! offset, as `texts.rt` describes them. It is printed with its answer, or with `fault: ` and the
+//! fault.
 //!
 //! When a call runs out of memory, `out of memory` is printed, and the call is made once more, on
 //! the same object. A library refuses the requests in turn (`tests/refused_requests`). Standard
@@ -34,8 +35,8 @@ fn word(words: &[String], number: usize) -> Result<&str> {
 /// Asks as the program's arguments say, of which the first is `again`.
 ///
 /// # Errors
-/// Arguments of another form, a file that can't be read, why nothing can be asked, a failed write;
-/// out of memory.
+/// Arguments of another form, a file that can't be read, a database that can't be asked, a failed
+/// write; out of memory.
 pub fn run(rt: &(impl Files + Print + Eprint + AllocGlobal), words: &[String]) -> Result<()> {
     let bytes = fs::read(rt, word(words, 2)?)?;
     let flags = TypeFormatterFlags::from_bits_retain(word(words, 3)?.parse::<u32>()?);

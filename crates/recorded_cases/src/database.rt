@@ -33,7 +33,7 @@ fn bytes_of(alloc: Global, text: &str) -> Result<Vec<u8>> {
     Ok(bytes)
 }
 
-/// Writes the bytes of lines where they stand.
+/// Writes the bytes of lines to their places.
 fn write_lines(alloc: Global, bytes: &mut [u8], lines: &str) -> Result<()> {
     for line in lines.lines() {
         write_line(alloc, bytes, line)?;
@@ -41,7 +41,7 @@ fn write_lines(alloc: Global, bytes: &mut [u8], lines: &str) -> Result<()> {
     Ok(())
 }
 
-/// Writes the bytes of a line where they stand.
+/// Writes the bytes of a line to their place.
 fn write_line(alloc: Global, bytes: &mut [u8], line: &str) -> Result<()> {
     let (place, digits) = line
         .split_once(' ')

@@ -24,7 +24,7 @@ use anyhow::Result;
 use std::env;
 use std::rt::{Clock, Env, Files};
 
-/// What the program's next words are.
+/// The kind of the program's next words.
 #[derive(Clone, Copy)]
 enum Words {
     /// Files of cases of formatters and contexts.
@@ -44,7 +44,7 @@ fn words_of(rt: &(impl Env + AllocGlobal)) -> Result<Vec<String>> {
     Ok(words)
 }
 
-/// Does what words ask for.
+/// Carries out the program's words.
 fn run_words(
     rt: &(impl Files + Print + Eprint + Clock + AllocGlobal),
     words: &[String],
@@ -60,7 +60,7 @@ fn run_words(
     Ok(())
 }
 
-/// Goes through the cases of a file, and prints how many there are; or times a container.
+/// Goes through the cases of a file, and prints their number; or times a container.
 fn run_word(
     rt: &(impl Files + Print + Eprint + Clock + AllocGlobal),
     kind: Words,
@@ -73,7 +73,7 @@ fn run_word(
     }
 }
 
-/// Prints how many cases of a kind a file has.
+/// Prints the number of cases of a kind in a file.
 fn print_count(rt: &impl Print, count: u64, kind: &str) -> Result<()> {
     Ok(println!(rt; "{count} {kind}")?)
 }

@@ -1,10 +1,10 @@
-//! Cases of reads: what records, streams, tables and addresses say.
+//! Cases of reads: the answers of records, streams, tables and addresses.
 //!
 //! A recorded answer comes from the format, so it stays whatever the code says.
 //!
-//! A line of a file is a case if it contains ` => `. Before that stand words: what is asked; bytes
-//! in hexadecimal, a number or a database's file; changes of that file or further bytes; and
-//! numbers. After it stands the answer, or the fault, that must come.
+//! A line of a file is a case if it contains ` => `. Before that stand words: the task; bytes in
+//! hexadecimal, a number or a database's file; changes of that file or further bytes; and numbers.
+//! After it stands the answer, or the fault, that must come.
 //!
 //! When a case runs out of memory, `out of memory` is printed, and it is asked once more, of the
 //! same database if that was open. A library refuses the requests in turn
@@ -30,7 +30,7 @@ use shown::shown;
 use std::rt::Files;
 use std::{fs, io};
 
-/// Goes through the cases of a file, and returns how many there are.
+/// Goes through the cases of a file, and returns their number.
 ///
 /// # Errors
 /// A file that can't be read, a failed write; `OutOfMemory`.

@@ -1,6 +1,6 @@
-//! Times how the streams of a container in memory are read, beside one copy of its bytes.
+//! Times the reading of the streams of a container in memory, beside one copy of its bytes.
 //!
-//! What it makes and times may change together with the stored output.
+//! The containers and the times taken may change together with the stored output.
 //!
 //! `300x256` makes a container of 300 streams, each with 256 pages of 4096 bytes. It times a copy
 //! of the container's bytes. Then it times how long it takes to open that copy and to read all its
@@ -20,7 +20,7 @@ use std::io;
 use std::rt::Clock;
 use std::time::{Duration, Instant};
 
-/// Times a container of a shape, as `300x256`, and prints what was read.
+/// Times a container of a shape, such as `300x256`, and prints what was read.
 ///
 /// # Errors
 /// Another word, or too many streams or pages; a failed write; out of memory.
@@ -34,7 +34,7 @@ pub fn run(rt: &(impl Print + Eprint + Clock + AllocGlobal), shape: &str) -> Res
     Ok(())
 }
 
-/// Returns how many streams a shape has, and how many pages each of them.
+/// Returns the number of a shape's streams, and the number of pages of each.
 fn shape_of(shape: &str) -> Result<(u32, u32)>
     ensures streams { IfOk result (λ shape. shape.0 ≤ 10000) }
     ensures pages { IfOk result (λ shape. shape.1 ≤ 2 ^ 10) }
@@ -59,7 +59,7 @@ fn number_of(word: &str, most: u32) -> Result<u32>
     Ok(number)
 }
 
-/// What was read, and how long it took.
+/// The streams that were read, and the times that this took.
 #[derive(Drop)]
 struct Reading<'s> {
     streams: Vec<Stream<'s>>,
@@ -80,7 +80,7 @@ fn read_copy<'s>(rt: &(impl Clock + AllocGlobal), file: &[u8], count: u32) -> Re
     })
 }
 
-/// Copies a container, and returns how long that took.
+/// Copies a container, and returns the time that this took.
 fn copy_timed(rt: &(impl Clock + AllocGlobal), file: &[u8]) -> Result<(Vec<u8>, Duration)>
     ensures { IfOk result (λ r. r.0.items ≡ file.now) }
 {
@@ -89,8 +89,8 @@ fn copy_timed(rt: &(impl Clock + AllocGlobal), file: &[u8]) -> Result<(Vec<u8>, 
     Ok((copy, start.elapsed(rt)?))
 }
 
-/// Opens a container and reads its first `count` streams, and returns how long that took. What
-/// letting go of the container takes isn't in it.
+/// Opens a container and reads its first `count` streams, and returns the time that this took. The
+/// time of letting go of the container isn't in it.
 fn read_timed<'s>(
     rt: &(impl Clock + AllocGlobal),
     file: Vec<u8>,
@@ -120,7 +120,7 @@ fn all_streams<'s>(
     Ok(streams)
 }
 
-/// Prints how many streams there are, how many bytes they have, and a checksum of all bytes.
+/// Prints the number of streams, the number of their bytes, and a checksum of all bytes.
 fn print_streams(rt: &impl Print, streams: &[Stream]) -> io::Result<()> {
     let mut size = 0u64;
     let mut sum = 0u64;

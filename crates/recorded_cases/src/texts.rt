@@ -1,4 +1,4 @@
-//! Cases of texts: what formatters of types print, and what contexts answer about addresses.
+//! Cases of texts: the texts of formatters of types, and the answers of contexts about addresses.
 //!
 //! A line of a file is a case if it contains ` => `. Before that stand five words: what is asked;
 //! the file of a database, as `database.rt` describes it; the index of a module; the flags; and an
@@ -13,18 +13,20 @@
 //! - `function_at`: the function at that RVA, as its copy
 //! - `frames_at`: the frames at that RVA, as their copy
 //! - `shared_at`: the frames at that RVA, with shared names
-//! - `run_from`: the function at that offset of section 1, over how many bytes up to 256 it stays
-//!   the same, and how many places were looked up for that
-//! - `file_run_from`: the source file at that offset of section 1, over how many bytes up to 256 it
-//!   stays the same, and how many places were looked up for that
-//! - `file_run_again`: what `file_run_from` asks, of a context that was asked before for the frames
-//!   at that offset from RVA 0x1000
-//! - `functions`: how many entries the public list has, and all functions
-//! - `each_again`: for frames, function, run and functions, at how many of the 288 addresses from
-//!   that RVA on a new context asks for modules, and how often such contexts ask for them when they
-//!   are asked again. Then how often one context does that was asked for all four at each address
-//! - `forgotten`: at how many of the 288 addresses from that RVA on a context that is asked for the
-//!   frames asks for modules. Then at how many of every eighth its frames are those of a new one
+//! - `run_from`: the function at that offset of section 1, the number of bytes up to 256 over which
+//!   it stays the same, and the number of places that were looked up for it
+//! - `file_run_from`: the source file at that offset of section 1, the number of bytes up to 256
+//!   over which it stays the same, and the number of places that were looked up for it
+//! - `file_run_again`: the same as `file_run_from`, of a context that was asked before for the
+//!   frames at that offset from RVA 0x1000
+//! - `functions`: the number of entries of the public list, and all functions
+//! - `each_again`: for frames, function, run and functions, the number of the 288 addresses from
+//!   that RVA on at which a new context asks for modules, and how often such contexts ask for them
+//!   when they are asked again. Then how often one context asks for them that was asked for all
+//!   four at each address
+//! - `forgotten`: the number of the 288 addresses from that RVA on at which a context that is asked
+//!   for the frames asks for modules. Then, of every eighth address, the number at which its frames
+//!   are those of a new one
 //! - `prefixes`: the frames at that RVA in each prefix of the file: each length, in hexadecimal,
 //!   from which on the answer is another one, and that answer
 //!
@@ -50,7 +52,7 @@ use std::rt::Files;
 /// The data that were read of a database.
 pub type Data = ContextPdbData<'static, 'static, Vec<u8>>;
 
-/// Goes through the cases of a file, and returns how many there are.
+/// Goes through the cases of a file, and returns their number.
 ///
 /// # Errors
 /// A file that can't be read; out of memory.
@@ -88,7 +90,7 @@ pub fn told(alloc: Global, answer: Result<String, Error>) -> Result<String, Allo
     }
 }
 
-/// Answers a question by a file's bytes.
+/// Answers a question from a file's bytes.
 fn answer(alloc: Global, bytes: Vec<u8>, question: &Question<'_>) -> Result<String, Error> {
     match question.asked {
         Asked::EachAgain | Asked::Forgotten => calls::ask(alloc, bytes, question),
@@ -97,13 +99,13 @@ fn answer(alloc: Global, bytes: Vec<u8>, question: &Question<'_>) -> Result<Stri
     }
 }
 
-/// Reads the data of a database, and answers a question by them.
+/// Reads the data of a database, and answers a question from them.
 fn ask(alloc: Global, bytes: Vec<u8>, question: &Question<'_>) -> Result<String, Error> {
     let data = data_of(alloc, bytes)?;
     ask_over(alloc, &data, question)
 }
 
-/// Answers a question by the data that were read of a database.
+/// Answers a question from the data that were read of a database.
 fn ask_over(alloc: Global, data: &Data, question: &Question<'_>) -> Result<String, Error> {
     match question.asked {
         Asked::Function
@@ -119,7 +121,7 @@ fn ask_over(alloc: Global, data: &Data, question: &Question<'_>) -> Result<Strin
 /// Reads the data of a database.
 ///
 /// # Errors
-/// What can't be read of the database; out of memory.
+/// A database that can't be read; out of memory.
 pub fn data_of(alloc: Global, bytes: Vec<u8>) -> Result<Data, Error> {
     let database = PDB::open(alloc, bytes)?;
     ContextPdbData::try_from_pdb(alloc, database)

@@ -40,7 +40,7 @@ fn is_named(table: &StringTable<'_>, alloc: Global) -> Result<bool, Error> {
     Ok(name.as_str() == "a\u{fffd}c")
 }
 
-/// Whether that of the sample's table is.
+/// Whether the name of the sample's table is as written.
 fn has_name(alloc: Global) -> Result<bool, Fail> {
     let table = StringTable::parse(names_stream(alloc)?)?;
     Ok(is_named(&table, alloc)?)
@@ -73,7 +73,7 @@ fn six_pages(alloc: Global) -> Result<PageList, Error> {
     Ok(list)
 }
 
-/// Whether those that lie side by side are joined, and no others.
+/// Whether the pages that lie side by side are joined, and no others.
 fn are_joined(list: &PageList) -> bool {
     let slices = [
         slice(0, 8192),

@@ -1,5 +1,5 @@
-//! Files for the tests. What the functions here answer is the second call's where the first finds
-//! no memory.
+//! Files for the tests. Where the first call of a function here finds no memory, its answer is the
+//! second call's.
 
 use pdb_container::{BigMSF, Error, Msf, Source, Stream, open_msf};
 use pdb_samples::{Container, PageOrder, SampleError};
@@ -64,7 +64,7 @@ pub fn open(alloc: Global, bytes: &[u8]) -> Result<BigMSF<'static, Vec<u8>>, Err
     }
 }
 
-/// What a container answers.
+/// The answer of a container.
 pub fn get<'s, S: Source>(
     container: &mut BigMSF<'s, S>,
     alloc: Global,

@@ -6,7 +6,7 @@ use pdb_samples::{Container, PageOrder, SampleError};
 use std::alloc::Global;
 use std::test::Fail;
 
-/// What a described stream is to be under a limit.
+/// The bytes that a described stream is to have under a limit.
 fn stream_of(description: &Container, number: u32, limit: usize) -> Result<&[u8], Error> {
     match description.streams.get(number as usize) {
         Some(Some(bytes)) => Ok(bytes.as_slice().get(..limit).unwrap_or(bytes.as_slice())),

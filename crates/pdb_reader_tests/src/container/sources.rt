@@ -50,8 +50,8 @@ fn opened<'c>(
     }
 }
 
-/// Why stream 1 of a container is refused, if it is, and whether its bytes are as usual at the next
-/// call.
+/// The error with which stream 1 of a container is refused, if it is, and whether its bytes are as
+/// usual at the next call.
 fn asked_of(
     container: &mut BigMSF<'static, Failing<'_>>,
     alloc: Global,
@@ -66,7 +66,7 @@ fn asked_of(
     Ok((error, stream.as_slice() == usual.as_slice()))
 }
 
-/// What [`asked_of`] returns where views fail.
+/// The answer of [`asked_of`] where views fail.
 fn asked_twice(
     alloc: Global,
     fails: &'static [u64],
@@ -115,10 +115,10 @@ fn a_stream_is_read_anew_where_its_view_failed(rt: HostRuntime) -> Result<(), Fa
     Ok(())
 }
 
-/// Why a call is refused, if it is, and how many views there were then.
+/// The error with which a call is refused, if it is, and the number of views by then.
 type Asked = (Option<Error>, u64);
 
-/// What a call for stream 1 says, or that memory ran out.
+/// The answer of a call for stream 1, or that memory ran out.
 fn asked(
     container: &mut BigMSF<'static, Failing<'_>>,
     alloc: Global,
@@ -130,10 +130,10 @@ fn asked(
     }
 }
 
-/// What three calls say.
+/// The answers of three calls.
 type Calls = (Asked, Asked, Asked);
 
-/// What three calls for stream 1 say.
+/// The answers of three calls for stream 1.
 fn asked_thrice(
     container: &mut BigMSF<'static, Failing<'_>>,
     alloc: Global,
@@ -146,7 +146,7 @@ fn asked_thrice(
     ))
 }
 
-/// How many views the opening takes, and what three calls say.
+/// The number of views that the opening takes, and the answers of three calls.
 fn viewed(alloc: Global, views: &Cell<u64>, source: Failing<'_>) -> Result<(u64, Calls), Error> {
     let mut container = open_msf(alloc, source)?;
     let opening = views.get();
@@ -154,7 +154,7 @@ fn viewed(alloc: Global, views: &Cell<u64>, source: Failing<'_>) -> Result<(u64,
     Ok((opening, asked))
 }
 
-/// What [`viewed`] returns where some views fail.
+/// The answer of [`viewed`] where some views fail.
 fn viewed_where(alloc: Global, fails: &'static [u64]) -> Result<(u64, Calls), Fail> {
     let views = Cell::new(0);
     match viewed(alloc, &views, source(alloc, &views, fails, Refusal::Other)?) {
@@ -245,8 +245,8 @@ fn counted_views<'c>(
     open_msf(alloc, source)
 }
 
-/// The length of stream 1 of a container and how many views there were then, and why stream 0 is
-/// refused.
+/// The length of stream 1 of a container and the number of views by then, and the error with which
+/// stream 0 is refused.
 fn lengths_of(
     container: &mut BigMSF<'static, OwnPages<'_>>,
     alloc: Global,
@@ -257,7 +257,7 @@ fn lengths_of(
     Ok((length, count, get(container, alloc, 0, None).err()))
 }
 
-/// What [`lengths_of`] returns where only these slices can be viewed.
+/// The answer of [`lengths_of`] where only these slices can be viewed.
 fn by_own_pages(
     alloc: Global,
     order: PageOrder,
@@ -279,10 +279,10 @@ fn a_stream_views_its_own_pages_once_and_alone(rt: HostRuntime) -> Result<(), Fa
     Ok(())
 }
 
-/// How many views there are by the opening and at the end, and why streams 0 and 1 are refused.
+/// The numbers of views by the opening and at the end, and why streams 0 and 1 are refused.
 type Refused = ([u64; 2], [Option<Error>; 2]);
 
-/// What is refused where numbers are written over the file.
+/// The refusals where numbers are written over the file.
 fn by_bad_directory(alloc: Global, numbers: &[(usize, u32)]) -> Result<Refused, Fail> {
     let mut bytes = two_streams(alloc, PageOrder::Natural)?;
     write_numbers(bytes.as_mut_slice(), numbers)?;
@@ -294,9 +294,9 @@ fn by_bad_directory(alloc: Global, numbers: &[(usize, u32)]) -> Result<Refused, 
     Ok(([opening, views.get()], [first, second]))
 }
 
-/// Numbers that are written over the file, how many views its opening takes, and why each stream is
-/// refused: a page of the directory past the number used, the list's past the file's end, the
-/// directory's there, and no count.
+/// Numbers that are written over the file, the number of views that its opening takes, and the
+/// error with which each stream is refused: a page of the directory past the number used, the
+/// list's past the file's end, the directory's there, and no count.
 const DIRECTORIES: &[(Numbers, u64, Error)] = &[
     (
         &[(DIRECTORY_PAGE, 0xff)],

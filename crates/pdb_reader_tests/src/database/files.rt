@@ -26,7 +26,7 @@ fn file_of(alloc: Global, absent: usize, stream: Vec<u8>) -> Result<Vec<u8>, Sam
 /// Opens a file with that stream after `absent` absent ones.
 ///
 /// # Errors
-/// A stream that doesn't fit, what can't be read of the file; out of memory.
+/// A stream that doesn't fit, a file that can't be read; out of memory.
 pub fn database_of(alloc: Global, absent: usize, stream: Vec<u8>) -> Result<Database, Fail> {
     let file = file_of(alloc, absent, stream)?;
     Ok(PDB::open(alloc, file)?)

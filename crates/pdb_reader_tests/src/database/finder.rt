@@ -9,8 +9,8 @@ use pdb_samples::{SampleError, push_u32};
 use std::alloc::Global;
 use std::test::Fail;
 
-/// The greatest index of known blocks, the known end, the kind at an index, asked twice, and how
-/// many lengths a search for it reads.
+/// The greatest index of known blocks, the known end, the kind at an index, asked twice, and the
+/// number of lengths that a search for it reads.
 type Said = (u32, Option<u32>, Result<u16>, Result<u16>, u32);
 
 /// Ten items, each of which is its index in two bytes.
@@ -45,7 +45,8 @@ fn table(
     Ok(database.type_information(alloc)?)
 }
 
-/// Takes `steps` steps of an iterator, and shows it to the finder after each. A fault ends that.
+/// Takes `steps` steps of an iterator, and shows it to the finder after each. A fault ends the
+/// steps.
 fn show(finder: &mut TypeFinder<'_>, iterator: &mut TypeIter<'_>, steps: usize) -> Result<()>
     requires { iterator.old.table ≡ finder.old.table }
 {
@@ -61,14 +62,14 @@ fn kind_at(finder: &TypeFinder<'_>, index: u32) -> Result<u16> {
     finder.find(TypeIndex(index))?.raw_kind()
 }
 
-/// Returns how many lengths of items a search for an index reads.
+/// Returns the number of lengths of items that a search for an index reads.
 fn lengths_at(finder: &TypeFinder<'_>, index: u32) -> u32 {
     let mut lengths = 0;
     let _ = find_counting(finder, TypeIndex(index), &mut lengths);
     lengths
 }
 
-/// Returns what a finder says after it was shown that many steps.
+/// Returns the answers of a finder after it was shown that many steps.
 fn asked(alloc: Global, types: &TypeInformation<'_>, steps: usize, index: u32) -> Result<Said> {
     let mut finder = types.finder(alloc)?;
     let _ = show(&mut finder, &mut types.iter(), steps);
@@ -86,9 +87,10 @@ fn end_of(finder: &TypeFinder<'_>) -> Option<u32> {
     }
 }
 
-/// The bytes after ten types of a stream, how many steps are shown, an index, and what is said of
-/// it: the greatest index of known blocks, the known end, the kind, and how many lengths are read.
-/// These are the lengths from the start of the block on to that of the item.
+/// The bytes after ten types of a stream, the number of steps that are shown, an index, and the
+/// finder's answers about it: the greatest index of known blocks, the known end, the kind, and the
+/// number of lengths that are read. These are the lengths from the start of the block on to that of
+/// the item.
 const ROWS: &[(&[u8], usize, u32, u32, Option<u32>, Result<u16>, u32)] = &[
     (b"", 0, 0x74, 0x1007, None, Err(Error::UnexpectedEof), 0),
     (

@@ -28,21 +28,21 @@ fn information(alloc: Global) -> Result<Vec<u8>, SampleError> {
 /// A count of names, and the lengths of the first and the last in bytes.
 type Said = (usize, Option<usize>, Option<usize>);
 
-/// Returns how many names there are, and the lengths of the first and the last in bytes.
+/// Returns the number of names, and the lengths of the first and the last in bytes.
 fn said(names: &StreamNames<'_>) -> Said {
     let first = names.iter().next().map(|entry| entry.name.len());
     let last = names.iter().last().map(|entry| entry.name.len());
     (names.iter().count(), first, last)
 }
 
-/// Returns as [`said`], of the names in a database's information stream.
+/// Returns the answer of [`said`] about the names in a database's information stream.
 fn said_of(alloc: Global, database: &mut PDB<'_, Vec<u8>>) -> pdb_container::Result<Said> {
     let information = database.pdb_information(alloc)?;
     let names = information.stream_names(alloc)?;
     Ok(said(&names))
 }
 
-/// Returns as [`said`], of the names of the sample.
+/// Returns the answer of [`said`] about the names of the sample.
 fn said_of_sample(alloc: Global) -> Result<Said, Fail> {
     let mut database = database_of(alloc, 1, information(alloc)?)?;
     Ok(said_of(alloc, &mut database)?)

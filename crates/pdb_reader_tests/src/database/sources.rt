@@ -9,7 +9,7 @@ use std::cell::Cell;
 use std::io::ErrorKind;
 use std::test::Fail;
 
-/// Why a call is refused, if it is, and how many views there were by then.
+/// The error with which a call is refused, if it is, and the number of views by then.
 type Asked = (Option<Error>, u64);
 
 /// Asks a database for its types, for stream 5 and for stream 3.
@@ -22,7 +22,8 @@ fn asked(database: &mut PDB<'static, Failing<'_>>, alloc: Global, views: &Cell<u
     [(types, of_types), (raw, of_raw), (by_index, views.get())]
 }
 
-/// Returns how many views the opening of file F takes, and what the calls say, if some views fail.
+/// Returns the number of views that the opening of file F takes, and the answers of the calls, if
+/// some views fail.
 fn viewed(alloc: Global, fails: &'static [u64]) -> Result<(u64, [Asked; 3]), Fail> {
     let views = Cell::new(0);
     let source = Failing {

@@ -7,10 +7,10 @@ use pdb_samples::{cross_imports, imports_of_no_stream, short_line_block};
 use std::alloc::Global;
 use std::test::Fail;
 
-/// What a context is asked for.
+/// A question to a context.
 #[derive(Clone, Copy)]
 enum Question {
-    /// The first function, and after the list of all is dropped the one at 0x1014, each as its
+    /// The first function, and after the list of all is dropped the function at 0x1014, each as its
     /// copy.
     Functions,
     /// The frames at 0x1014 with shared names, which may go to another thread.
@@ -59,7 +59,8 @@ fn function_by<P: ModuleProvider>(
     }
 }
 
-/// Returns the first function of a context, and after the list of all is dropped the one at 0x1014.
+/// Returns the first function of a context, and after the list of all is dropped the function at
+/// 0x1014.
 fn functions_by<P: ModuleProvider>(
     alloc: Global,
     context: &mut Context<'_, '_, P>,
@@ -87,8 +88,7 @@ fn shared_frames_by<P: ModuleProvider>(
     }
 }
 
-/// Returns what is reported of lines that can't be read: their own fault, or that they stand as
-/// failed.
+/// Returns the report of lines that can't be read: their own fault, or that they stand as failed.
 fn lines_fault<P: ModuleProvider>(alloc: Global, context: &mut Context<'_, '_, P>) -> &'static str {
     match context.find_frames(alloc, 0x1014) {
         Err(Error::PdbError(Cause::UnexpectedEof)) => "their own",
@@ -97,7 +97,7 @@ fn lines_fault<P: ModuleProvider>(alloc: Global, context: &mut Context<'_, '_, P
     }
 }
 
-/// Returns what is reported of lines that can't be read, for each of two questions.
+/// Returns the report of lines that can't be read, for each of two questions.
 fn lines_faults<P: ModuleProvider>(
     alloc: Global,
     context: &mut Context<'_, '_, P>,
@@ -107,7 +107,7 @@ fn lines_faults<P: ModuleProvider>(
     Ok(format!(in alloc; "{first}, {second}")?)
 }
 
-/// Returns which modules hold addresses and ranges.
+/// Returns the modules that hold addresses and ranges.
 fn modules_by<P: ModuleProvider>(
     alloc: Global,
     context: &Context<'_, '_, P>,
@@ -158,8 +158,8 @@ fn answer(alloc: Global, bytes: Vec<u8>, question: Question) -> Result<String, E
     asked_over(alloc, &data, question)
 }
 
-/// Makes a context over the tables of one file, by the parts of another context, and the modules of
-/// another file.
+/// Makes a context over the tables of one file, from the parts of another context, and the modules
+/// of another file.
 fn context_over<'a>(
     alloc: Global,
     data: &'a Data,

@@ -10,7 +10,7 @@ pub type Data = ContextPdbData<'static, 'static, Vec<u8>>;
 /// Reads the data of a file with these bytes.
 ///
 /// # Errors
-/// What can't be read of the database; out of memory.
+/// A database that can't be read; out of memory.
 pub fn data_of(alloc: Global, bytes: Vec<u8>) -> Result<Data, Error> {
     let database = PDB::open(alloc, bytes)?;
     ContextPdbData::try_from_pdb(alloc, database)

@@ -10,7 +10,7 @@ const COMMA: TypeFormatterFlags = TypeFormatterFlags::SPACE_AFTER_COMMA;
 const ARGUMENTS: TypeFormatterFlags = TypeFormatterFlags::NO_ARGUMENTS;
 
 /// Returns the bits that the operators leave: of two flags together; of the flags that two sets
-/// have in common; of those that only one of them has; of one set without the other; and of the
+/// have in common; of the flags that only one of them has; of one set without the other; and of the
 /// flags that a set lacks.
 fn bits_of_operators() -> [u32; 5] {
     let both = STATIC | COMMA;

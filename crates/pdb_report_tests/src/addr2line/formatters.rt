@@ -10,12 +10,12 @@ use std::alloc::Global;
 use std::fmt;
 use std::test::Fail;
 
-/// What a formatter is asked for.
+/// A question to a formatter.
 #[derive(Clone, Copy)]
 enum Question {
-    /// To write a function and an id to a writer that refuses them.
+    /// A function and an id, written to a writer that refuses them.
     Refused,
-    /// Ids whose imports can't be read, and then one whose imports can.
+    /// Ids whose imports can't be read, and then one whose imports can be.
     FailedImports,
     /// Ids whose exports can't be read.
     FailedExports,
@@ -192,7 +192,7 @@ fn texts_of_file(alloc: Global, bytes: Vec<u8>) -> Result<String, Error> {
     lent_and_back(alloc, &mut pdb)
 }
 
-// What was read borrows nothing of the database, and leaves it as it was.
+// The data that were read borrow nothing of the database, and leave it as it was.
 #[test]
 fn lent_database(rt: HostRuntime) -> Result<(), Fail> {
     let texts = texts_of_file(rt.alloc(), cross_imports(rt.alloc())?)?;

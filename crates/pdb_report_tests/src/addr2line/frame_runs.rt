@@ -1,4 +1,4 @@
-//! Runs of frames: what they say at each of their places, and where they end.
+//! Runs of frames: the frames at each of their places, and where they end.
 
 ghost use Rattle.std.specs.Prelude.{◌≤◌};
 
@@ -9,7 +9,7 @@ use pdb_samples::{nested_sites, short_line_block};
 use std::alloc::Global;
 use std::test::Fail;
 
-/// Where the runs end that are asked for, in section 1, which begins at 0x1000.
+/// The end of the runs that are asked for, in section 1, which begins at 0x1000.
 const END: u32 = 0x60;
 
 /// Returns the text of frames: for each function, file and line.
@@ -37,7 +37,7 @@ fn frames_text<P: ModuleProvider>(
     }
 }
 
-/// Returns how many addresses of a run have other frames than it says.
+/// Returns the number of addresses of a run that have other frames than it says.
 fn count_others<P: ModuleProvider>(
     alloc: Global,
     context: &mut Context<'_, '_, P>,
@@ -53,7 +53,7 @@ fn count_others<P: ModuleProvider>(
     Ok(others)
 }
 
-/// Appends where a run begins, how long it is, its frames, and how many of its addresses have
+/// Appends the start of a run, its length, its frames, and the number of its addresses that have
 /// others. Returns its length.
 fn push_run<P: ModuleProvider>(
     alloc: Global,
@@ -124,7 +124,7 @@ fn runs_of_nested_calls(rt: HostRuntime) -> Result<(), Fail> {
     Ok(())
 }
 
-// Frames that can't be read have a run, as nothing has.
+// Frames that can't be read have a run, and so has an address without a function.
 #[test]
 fn runs_of_lines_that_fail(rt: HostRuntime) -> Result<(), Fail> {
     let text = runs_of(rt.alloc(), short_line_block(rt.alloc())?)?;

@@ -8,8 +8,8 @@ use pdb_addresses::PdbInternalSectionOffset;
 use pdb_owners::{Function, Runs};
 use std::alloc::{AllocError, Global};
 
-/// The function f at offsets 0x10 to 0x30 of section 1, how many places were looked up, and how
-/// often an answer was made of a key.
+/// The function f at offsets 0x10 to 0x30 of section 1, the number of places that were looked up,
+/// and how often an answer was made of a key.
 #[derive(Drop)]
 pub(crate) struct OneFunction {
     pub(crate) lookups: u64,
@@ -67,7 +67,7 @@ fn function_at(
     }
 }
 
-/// Returns how far the answer at a place goes on.
+/// Returns the distance over which the answer at a place goes on.
 #[tactic(auto, using(crate::proofs::addr2line::OneFunctionSteps::elsewhere, crate::proofs::addr2line::OneFunctionSteps::past, crate::proofs::addr2line::OneFunctionSteps::before, crate::proofs::addr2line::OneFunctionSteps::inside))]
 fn run_at(place: PdbInternalSectionOffset, limit: u32) -> u32
     requires { 1 ≤ limit }

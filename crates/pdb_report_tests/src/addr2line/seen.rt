@@ -6,7 +6,7 @@ use std::alloc::Global;
 use std::test::Fail;
 
 /// Begins a level with the index 1 on a path, inserts 0 and 2 at it, and 3 at a further level.
-/// Returns whether 0 is refused, and what is on the path after the further level has ended.
+/// Returns whether 0 is refused, and the indices on the path after the further level has ended.
 fn inserted(alloc: Global, path: &mut IndexPath) -> Result<(bool, Vec<u32>), Fail> {
     let mut first = Seen::new(path);
     let mut second = Seen::insert_one(&mut *first.path, 1)?;

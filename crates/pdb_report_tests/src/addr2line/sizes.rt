@@ -42,7 +42,7 @@ fn moved(alloc: Global) -> Result<AddressMap<'static>, AllocError> {
     )
 }
 
-/// Returns the report's text, and how many places were looked up.
+/// Returns the report's text, and the number of places that were looked up.
 fn sizes(
     alloc: Global,
     map: &AddressMap<'_>,

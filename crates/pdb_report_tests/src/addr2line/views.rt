@@ -1,4 +1,4 @@
-//! How often the streams of a file are viewed while it is loaded.
+//! The number of views of a file's streams while it is loaded.
 
 use pdb_addr2line::pdb::{PDB, ReadView, Source, SourceSlice};
 use pdb_addr2line::{ContextPdbData, Error};
@@ -64,7 +64,7 @@ fn load(alloc: Global, source: Counted<'_>) -> Result<(), Error> {
     }
 }
 
-/// Returns how many views of the file begin at a place while it is loaded.
+/// Returns the number of views of the file that begin at a place while it is loaded.
 fn views_at(alloc: Global, place: u64) -> Result<u64, Fail> {
     let views = Cell::new(0);
     let bytes = shared_stream(alloc)?;

@@ -1,7 +1,7 @@
 //! The public calls on two images that `lld-link` 19 made of a program for x86_64 and for i686. Of
 //! each file the debug directory, the record and most of the headers are here, and zeros in place
-//! of the rest. The expected values are what `llvm-readobj` and `objdump` say of these bytes and of
-//! the whole files, and what `llvm-pdbutil` says of their PDBs.
+//! of the rest. The expected values come from `llvm-readobj` and `objdump` on these bytes and on
+//! the whole files, and from `llvm-pdbutil` on their PDBs.
 
 use pdb_image::{CodeView, Image, ImageError, PdbIdentity};
 use pdb_samples::{SampleError, overwrite};

@@ -1,4 +1,4 @@
-//! What the definitions say of the rows' arguments.
+//! The statements of the definitions about the rows' arguments.
 
 ghost use Rattle.std.specs.Prelude.{◌≡◌, ◌∷◌, [], true, false, Some, None, codes};
 ghost use Rattle.clap.specs.Words.{fault_of};

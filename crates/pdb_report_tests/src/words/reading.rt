@@ -4,7 +4,7 @@ use pdb_arguments::{Task, WordsFault, read_words};
 use std::alloc::{AllocError, Global};
 use std::test::Fail;
 
-/// What has to come of arguments.
+/// The task or fault that has to come of arguments.
 #[derive(Clone, Copy)]
 enum Wanted {
     /// The task `frames` over a file, without `--demangle`.
@@ -37,7 +37,7 @@ fn has_all(text: &String, parts: &[&str]) -> bool {
 }
 
 impl Wanted {
-    /// Returns whether it came.
+    /// Returns whether the wanted task or fault came.
     fn came(self, outcome: &Result<Task, WordsFault>) -> bool {
         match (self, outcome) {
             (
@@ -178,7 +178,7 @@ const HELP: &[&str] = &[
 /// A text that `--version` writes.
 const VERSION: &[&str] = &["pdb_symbolizer 0."];
 
-/// Arguments with spaces between them, and what has to come of them.
+/// Arguments with spaces between them, and the task or fault that has to come of them.
 const ROWS: &[(&str, Wanted)] = &[
     ("sizes F 0x10 20", Wanted::Sizes("F", 16, 32)),
     (

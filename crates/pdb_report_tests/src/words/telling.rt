@@ -1,11 +1,11 @@
-//! What is reported where no task comes of arguments, to whom, and with which status.
+//! The report where no task comes of arguments: its text, its output, and the status.
 
 use pdb_arguments::{WordsFault, tell_words};
 use std::alloc::{AllocError, Global};
 use std::io::{self, ErrorKind, Write};
 use std::test::Fail;
 
-/// A fault, what is written of it to the output and to the errors, and the status.
+/// A fault, the texts that are written of it to the output and to the errors, and the status.
 type Row = (WordsFault, &'static str, &'static str, u8);
 
 /// Returns a row for each kind of fault.
@@ -63,8 +63,8 @@ impl Write for ClosedPipe {
     }
 }
 
-// Help that can't be written is refused. The status of all else, which goes to the errors, is the
-// same where nothing can be written.
+// Help that can't be written is refused. The status of all other faults, which go to the errors, is
+// the same where nothing can be written.
 #[test]
 fn closed_pipes(rt: HostRuntime) -> Result<(), Fail> {
     for (fault, told, _, wanted) in &faults_again(rt.alloc())? {

@@ -12,7 +12,7 @@ use json_strings::append_bytes;
 use msvc_demangler::{Demangled, SHORT_TEXT, demangle};
 use std::alloc::{AllocError, Global};
 
-/// Which report a line is of, and so where it has the name of a function.
+/// The report that a line is of, which says where the line has the name of a function.
 #[derive(Clone, Copy)]
 pub enum ReportKind {
     /// Frames of addresses: `  NAME at FILE:LINE @START+LENGTH`.
@@ -24,7 +24,7 @@ pub enum ReportKind {
     Sizes,
 }
 
-/// How many bytes stand before the first blank.
+/// The number of bytes before the first blank.
 fn word_length(text: &[u8]) -> usize
     ensures is { result ≡ prefix_len is_in_word text.now }
     ensures within { result ≤ length text.now }
@@ -32,7 +32,7 @@ fn word_length(text: &[u8]) -> usize
     text.iter().take_while(|byte| **byte != b' ').count()
 }
 
-/// Where a line goes on after the next blank from a place on; its end if there is none.
+/// The place after the next blank from a place of a line on; the line's end if there is none.
 fn after_blank(line: &[u8], start: usize) -> usize
     requires { start ≤ length line.now }
     ensures is { result ≡ after_blank_of line.now start }
@@ -42,7 +42,7 @@ fn after_blank(line: &[u8], start: usize) -> usize
     if blank < line.len() { blank + 1 } else { blank }
 }
 
-/// How many bytes a name has, by what begins with it.
+/// The number of a name's bytes, at the start of a text.
 fn name_length(kind: ReportKind, text: &[u8]) -> usize
     ensures is { result ≡ prefix_len (is_in_name kind) text.now }
     ensures within { result ≤ length text.now }
@@ -53,7 +53,7 @@ fn name_length(kind: ReportKind, text: &[u8]) -> usize
     }
 }
 
-/// How many bytes stand before the first blank or quote.
+/// The number of bytes before the first blank or quote.
 fn string_length(text: &[u8]) -> usize
     ensures is { result ≡ prefix_len (is_in_name ReportKind.Json) text.now }
     ensures within { result ≤ length text.now }
@@ -63,7 +63,7 @@ fn string_length(text: &[u8]) -> usize
         .count()
 }
 
-/// Where a line's name begins; at its end if it has none.
+/// The place at which a line's name begins; the line's end if it has none.
 #[tactic(auto, unfolding(crate::specs::UndecoratedLines::name_start))]
 fn name_start(kind: ReportKind, line: &[u8]) -> usize
     ensures is { result ≡ name_start_of kind line.now }
@@ -77,7 +77,7 @@ fn name_start(kind: ReportKind, line: &[u8]) -> usize
     }
 }
 
-/// Where the name of a frame begins in JSON; at the line's end if it has none.
+/// The place at which the name of a frame begins in JSON; the line's end if it has none.
 #[tactic(auto, unfolding(crate::specs::UndecoratedLines::name_start))]
 fn string_start(line: &[u8]) -> usize
     ensures is { result ≡ name_start_of ReportKind.Json line.now }
@@ -90,7 +90,7 @@ fn string_start(line: &[u8]) -> usize
     }
 }
 
-/// Whether a name is decorated, by how it begins: `??` stands for what isn't known.
+/// Whether a name is decorated, judged by its first bytes: `??` stands for a name that isn't known.
 fn begins_as_decorated(name: &[u8]) -> bool
     ensures { result ≡ is_decorated_name name.now }
 {
@@ -170,7 +170,7 @@ fn is_line_byte(kind: ReportKind, byte: u8) -> bool
     }
 }
 
-/// How many bytes stand before the first one that ends a line.
+/// The number of bytes before the first one that ends a line.
 fn line_length(kind: ReportKind, text: &[u8]) -> usize
     ensures is { result ≡ prefix_len (is_in_line kind) text.now }
     ensures within { result ≤ length text.now }
@@ -180,7 +180,7 @@ fn line_length(kind: ReportKind, text: &[u8]) -> usize
         .count()
 }
 
-/// The first line of a text, the byte that ends it, and what comes after that, if there is one.
+/// The first line of a text, the byte that ends it, and the rest after it, if there is such a byte.
 #[tactic(auto, using(crate::proofs::LineSteps::line_whole))]
 fn split_line(kind: ReportKind, text: &[u8]) -> Option<(&[u8], u8, &[u8])>
     ensures { MatchOption result (IsUnbroken kind text.now)
@@ -194,11 +194,11 @@ fn split_line(kind: ReportKind, text: &[u8]) -> Option<(&[u8], u8, &[u8])>
     }
 }
 
-/// Appends the lines that end in a text, each with the text of its name, and gives what comes after
+/// Appends the lines that end in a text, each with the text of its name, and returns the rest after
 /// them.
 ///
 /// # Errors
-/// Memory ran out.
+/// `AllocError` when memory runs out.
 pub(crate) fn append_lines<'t>(
     alloc: Global,
     kind: ReportKind,

@@ -8,7 +8,7 @@ use pdb_engine::ErrorOutput;
 use std::alloc::{AllocError, Global};
 use std::io::{self, ErrorKind, Write};
 
-/// Lines with the texts of their names, and what comes after them.
+/// Lines with the texts of their names, and the rest after them.
 #[derive(Drop)]
 struct EndedLines {
     named: Vec<u8>,
@@ -36,7 +36,8 @@ fn ended_lines(
 }
 
 /// A writer that takes a report, and writes it to another writer with the texts of decorated names
-/// in place of the names. A line is written when its newline comes, with those that come with it.
+/// in place of the names. A line is written when its newline comes, with the lines that come with
+/// it.
 #[derive(Drop)]
 pub struct UndecoratedWriter<W> {
     alloc: Global,
@@ -48,7 +49,7 @@ pub struct UndecoratedWriter<W> {
 impl<W: Write> UndecoratedWriter<W> {
     ghost use Rattle.pdb_symbolizer.specs.UndecoratedText.{WritesEnded, WritesFrontOf};
 
-    /// Writes to another writer, and was given nothing yet.
+    /// A writer to another writer, to which nothing was given yet.
     pub fn new(alloc: Global, kind: ReportKind, writer: W) -> UndecoratedWriter<W>
         ensures kind { result.kind ≡ kind }
         ensures writer { result.writer ≡ writer }
@@ -62,7 +63,7 @@ impl<W: Write> UndecoratedWriter<W> {
         }
     }
 
-    /// Writes the lines that end with these bytes, and keeps what comes after them.
+    /// Writes the lines that end with these bytes, and keeps the rest after them.
     ///
     /// # Errors
     /// The kind of a write that failed, or `OutOfMemory`. A prefix of the lines is written then,

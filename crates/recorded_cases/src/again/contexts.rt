@@ -10,7 +10,7 @@ use pdb_addr2line::{Context, Error, ModuleProvider};
 /// made.
 ///
 /// # Errors
-/// Why the context wasn't made, a failed write; out of memory.
+/// The fault in making the context, a failed write; out of memory.
 pub fn ask_made<P: ModuleProvider>(
     rt: &(impl Print + Eprint + AllocGlobal),
     made: Result<Context<'_, '_, P>, Error>,

@@ -10,7 +10,7 @@ use pdb_addr2line::{Error, ModuleProvider, TypeFormatter};
 /// made.
 ///
 /// # Errors
-/// Why the formatter wasn't made, a failed write; out of memory.
+/// The fault in making the formatter, a failed write; out of memory.
 pub fn ask_made<P: ModuleProvider>(
     rt: &(impl Print + Eprint + AllocGlobal),
     made: Result<TypeFormatter<'_, '_, P>, Error>,

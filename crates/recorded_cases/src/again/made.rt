@@ -10,7 +10,7 @@ use pdb_addr2line::{ContextPdbData, Error, TypeFormatterFlags};
 use pdb_report::{LoadFault, Symbolizer};
 use std::alloc::Global;
 
-/// How often a context or a formatter is made, if memory runs out.
+/// The number of times that a context or a formatter is made, if memory runs out.
 const ATTEMPTS: u32 = 2;
 
 /// An open database over a file's bytes.
@@ -68,8 +68,7 @@ fn data_in(rt: &(impl Print + Eprint + AllocGlobal), database: &mut Database) ->
 /// runs out each time it is made, nothing is asked.
 ///
 /// # Errors
-/// What can't be read of the database, an address map that isn't ordered, a failed write; out of
-/// memory.
+/// A database that can't be read, an address map that isn't ordered, a failed write; out of memory.
 pub fn ask_context(
     rt: &(impl Print + Eprint + AllocGlobal),
     bytes: &[u8],
@@ -105,7 +104,7 @@ fn ask_context_over(
 /// memory runs out each time it is made, nothing is asked.
 ///
 /// # Errors
-/// What can't be read of the database, a failed write; out of memory.
+/// A database that can't be read, a failed write; out of memory.
 pub fn ask_formatter(
     rt: &(impl Print + Eprint + AllocGlobal),
     bytes: &[u8],
@@ -145,7 +144,7 @@ fn open_symbolizer(alloc: Global, bytes: &[u8]) -> Result<Symbolizer, LoadFault>
 /// answer, twice. If memory runs out each time the context is made, nothing is asked.
 ///
 /// # Errors
-/// Why the file isn't loaded, a failed write; out of memory.
+/// The fault in loading the file, a failed write; out of memory.
 pub fn ask_symbolizer(
     rt: &(impl Print + Eprint + AllocGlobal),
     bytes: &[u8],

@@ -1,4 +1,4 @@
-//! Marks around each call, and what is printed of a question.
+//! Marks around each call, and the line that is printed of a question.
 
 use crate::texts::told;
 use pdb_addr2line::Error;
@@ -25,7 +25,7 @@ pub fn end(rt: &(impl Print + Eprint), is_refused: bool) -> io::Result<()> {
     Ok(())
 }
 
-/// Returns whether an error is out of memory. A writer that grows reports that as `FormatError`.
+/// Returns whether an error is out of memory. A writer that grows reports it as `FormatError`.
 pub fn is_refusal(error: &Error) -> bool {
     matches!(error, Error::OutOfMemory | Error::FormatError(_))
 }

@@ -1,4 +1,4 @@
-//! Addresses and places by an address map.
+//! Addresses and places from an address map.
 
 ghost use Rattle.pdb_addresses.specs.Addresses.{IsOrdered};
 
@@ -12,10 +12,10 @@ use pdb_container_types::{
 use std::alloc::Global;
 use std::ops::Range;
 
-/// Answers a question by an address map. A map that isn't ordered has one answer, which says so.
+/// Answers a question from an address map. A map that isn't ordered has one answer, which says so.
 ///
 /// # Errors
-/// `UnimplementedFeature` for a case that there isn't; `OutOfMemory`.
+/// `UnimplementedFeature` for an unknown case; `OutOfMemory`.
 pub fn ask(alloc: Global, map: &AddressMap<'_>, question: &Question<'_>) -> Result<String> {
     if !map.is_ordered() {
         return shown(alloc, &"not ordered");
@@ -118,7 +118,7 @@ fn push_addresses(alloc: Global, text: &mut String, range: Range<u32>) -> Result
     Ok(())
 }
 
-/// Returns where an internal address lies, and over how many addresses places go on.
+/// Returns the place of an internal address, and the number of addresses over which places go on.
 fn run(alloc: Global, map: &AddressMap<'_>, address: u32, limit: u32) -> Result<String> {
     if limit == 0 || u64::from(address) + u64::from(limit) > 0x1_0000_0000 {
         return Err(not_a_case());

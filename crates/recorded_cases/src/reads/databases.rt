@@ -15,10 +15,10 @@ use std::alloc::Global;
 /// An open database over a file's bytes.
 type Database = PDB<'static, Vec<u8>>;
 
-/// Answers a question by the database of a file's bytes. It is asked again if memory runs out.
+/// Answers a question from the database of a file's bytes. It is asked again if memory runs out.
 ///
 /// # Errors
-/// What can't be read of the database; `OutOfMemory`.
+/// A database that can't be read; `OutOfMemory`.
 pub fn ask(
     rt: &(impl Print + AllocGlobal),
     bytes: Vec<u8>,
@@ -34,7 +34,7 @@ pub fn ask(
     }
 }
 
-/// Answers a question by an open database.
+/// Answers a question from an open database.
 fn ask_database(alloc: Global, database: &mut Database, question: &Question<'_>) -> Result<String> {
     match question.task {
         Task::Raw | Task::Get | Task::Named => ask_streams(alloc, database, question),
@@ -64,13 +64,13 @@ fn sections_text(alloc: Global, database: &mut Database) -> Result<String> {
     shown_read(alloc, database.sections(alloc))
 }
 
-/// Answers a question by the global symbols.
+/// Answers a question from the global symbols.
 fn globals_text(alloc: Global, database: &mut Database, question: &Question<'_>) -> Result<String> {
     let table = database.global_symbols(alloc)?;
     ask_globals(alloc, &table, question)
 }
 
-/// Returns the global symbols, or those from an index on.
+/// Returns the global symbols, or the global symbols from an index on.
 fn ask_globals(alloc: Global, table: &SymbolTable<'_>, question: &Question<'_>) -> Result<String> {
     match question.task {
         Task::Globals => listed(alloc, &mut table.iter()),
@@ -78,25 +78,25 @@ fn ask_globals(alloc: Global, table: &SymbolTable<'_>, question: &Question<'_>) 
     }
 }
 
-/// Answers a question by stream 3.
+/// Answers a question from stream 3.
 fn debug_text(alloc: Global, database: &mut Database, question: &Question<'_>) -> Result<String> {
     let debug = database.debug_information(alloc)?;
     ask_debug(alloc, &debug, question.task)
 }
 
-/// Answers a question by stream 2.
+/// Answers a question from stream 2.
 fn types_text(alloc: Global, database: &mut Database, question: &Question<'_>) -> Result<String> {
     let table = database.type_information(alloc)?;
     ask_types(alloc, &table, question)
 }
 
-/// Answers a question by stream 4.
+/// Answers a question from stream 4.
 fn ids_text(alloc: Global, database: &mut Database, question: &Question<'_>) -> Result<String> {
     let table = database.id_information(alloc)?;
     ask_ids(alloc, &table, question)
 }
 
-/// Answers a question by the address map.
+/// Answers a question from the address map.
 fn addresses_text(
     alloc: Global,
     database: &mut Database,
@@ -156,7 +156,7 @@ fn names_text(alloc: Global, database: &mut Database) -> Result<String> {
     ask_names(alloc, &information)
 }
 
-/// Returns the names of streams by stream 1.
+/// Returns the names of streams from stream 1.
 fn ask_names(alloc: Global, information: &PDBInformation<'_>) -> Result<String> {
     let names = information.stream_names(alloc)?;
     listed_names(alloc, &names)
@@ -171,7 +171,7 @@ fn listed_names(alloc: Global, names: &StreamNames<'_>) -> Result<String> {
     Ok(text)
 }
 
-/// Returns what stream 3 says: the machine and the age, the modules, or the contributions.
+/// Returns an answer from stream 3: the machine and the age, the modules, or the contributions.
 fn ask_debug(alloc: Global, debug: &DebugInformation<'_>, task: Task) -> Result<String> {
     match task {
         Task::Debug => shown(alloc, &(debug.machine_type(), debug.age())),
@@ -180,7 +180,7 @@ fn ask_debug(alloc: Global, debug: &DebugInformation<'_>, task: Task) -> Result<
     }
 }
 
-/// Answers a question by the table of types.
+/// Answers a question from the table of types.
 fn ask_types(
     alloc: Global,
     table: &TypeInformation<'_>,
@@ -208,7 +208,7 @@ fn found_type(alloc: Global, finder: &TypeFinder<'_>, index: TypeIndex) -> Resul
     shown_read(alloc, item.parse(alloc))
 }
 
-/// Answers a question by the table of ids.
+/// Answers a question from the table of ids.
 fn ask_ids(alloc: Global, table: &IdInformation<'_>, question: &Question<'_>) -> Result<String> {
     match question.task {
         Task::IdTable => shown(
@@ -232,13 +232,13 @@ fn found_id(alloc: Global, finder: &IdFinder<'_>, index: IdIndex) -> Result<Stri
     shown_read(alloc, item.parse(alloc))
 }
 
-/// Answers a question by the stream of the module with that index.
+/// Answers a question from the stream of the module with that index.
 fn ask_module(alloc: Global, database: &mut Database, question: &Question<'_>) -> Result<String> {
     let debug = database.debug_information(alloc)?;
     ask_module_of(alloc, database, &debug, question)
 }
 
-/// Answers a question by the stream of the module with that index in the list of stream 3.
+/// Answers a question from the stream of the module with that index in the list of stream 3.
 fn ask_module_of(
     alloc: Global,
     database: &mut Database,
@@ -261,7 +261,7 @@ fn module_names(alloc: Global, module: &Module<'_>) -> Result<String> {
     Ok(format!(in alloc; "({name}, {object_file})")?)
 }
 
-/// Answers a question by a module's stream.
+/// Answers a question from a module's stream.
 fn ask_stream_of(
     alloc: Global,
     database: &mut Database,

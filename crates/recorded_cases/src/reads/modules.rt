@@ -1,4 +1,4 @@
-//! Records, and what modules' own streams hold.
+//! Records, and the contents of modules' own streams.
 
 use crate::reads::question::{Question, Task};
 use crate::reads::shown::{listed, push, shown, shown_read};
@@ -14,10 +14,10 @@ use pdb_symbols_modules::{
 };
 use std::alloc::Global;
 
-/// Answers a question by bytes.
+/// Answers a question from bytes.
 ///
 /// # Errors
-/// What can't be read of the bytes, a case that there isn't; `OutOfMemory`.
+/// Bytes that can't be read, an unknown case; `OutOfMemory`.
 pub fn ask(alloc: Global, bytes: &[u8], question: &Question<'_>) -> Result<String> {
     match question.task {
         Task::Type => records::type_text(alloc, bytes),
@@ -47,10 +47,10 @@ fn raw_text(alloc: Global, text: RawString<'_>) -> Result<String> {
     shown(alloc, &text.as_str().as_bytes())
 }
 
-/// Answers a question by a module's stream.
+/// Answers a question from a module's stream.
 ///
 /// # Errors
-/// What can't be read of the stream, a case that there isn't; `OutOfMemory`.
+/// A stream that can't be read, an unknown case; `OutOfMemory`.
 pub fn ask_stream(
     alloc: Global,
     module: &ModuleInfo<'_>,
@@ -73,7 +73,7 @@ fn symbols_text(alloc: Global, symbols: Result<SymbolIter<'_>>) -> Result<String
     listed(alloc, &mut symbols?)
 }
 
-/// Answers a question by a list of symbols of less than 65536 bytes.
+/// Answers a question from a list of symbols of less than 65536 bytes.
 fn ask_symbols(alloc: Global, bytes: &[u8], question: &Question<'_>) -> Result<String> {
     if bytes.len() > 0xffff {
         return Err(not_a_case());
@@ -90,8 +90,8 @@ fn ask_symbols(alloc: Global, bytes: &[u8], question: &Question<'_>) -> Result<S
     }
 }
 
-/// Returns the symbol that a jump to a place finds, all symbols after it, and what a second jump
-/// finds.
+/// Returns the symbol that a jump to a place finds, all symbols after it, and the symbol that a
+/// second jump finds.
 fn skip_text(alloc: Global, symbols: &mut SymbolIter<'_>, place: SymbolIndex) -> Result<String> {
     let mut text = String::new(alloc);
     let found = symbols.skip_to(place)?;
@@ -110,7 +110,7 @@ fn kind_text(alloc: Global, symbol: &Symbol<'_>) -> Result<String> {
     shown(alloc, &(index, kind, symbol.raw_bytes(), scope))
 }
 
-/// Answers a question by a module's line data, if they were read.
+/// Answers a question from a module's line data, if they were read.
 fn ask_lines(
     alloc: Global,
     lines: Result<LineProgram<'_>>,
@@ -119,8 +119,8 @@ fn ask_lines(
     lines_text(alloc, &lines?, question)
 }
 
-/// Answers a question by a module's line data. The question's last two numbers are a place, or the
-/// last one is a file's index.
+/// Answers a question from a module's line data. The question's last two numbers are a place, or
+/// the last one is a file's index.
 fn lines_text(alloc: Global, lines: &LineProgram<'_>, question: &Question<'_>) -> Result<String> {
     let (_, section, number) = question.numbers;
     match question.task {
@@ -195,7 +195,7 @@ fn call_rows<'a>(
     }
 }
 
-/// Answers a question by imports, if they were read.
+/// Answers a question from imports, if they were read.
 fn ask_imports(
     alloc: Global,
     imports: Result<CrossModuleImports<'_>>,
@@ -204,7 +204,7 @@ fn ask_imports(
     imported_text(alloc, &imports?, question)
 }
 
-/// Returns what an index stands for in another module.
+/// Returns the item that an index stands for in another module.
 fn imported_text(
     alloc: Global,
     imports: &CrossModuleImports<'_>,
@@ -217,7 +217,7 @@ fn imported_text(
     }
 }
 
-/// Answers a question by exports, if they were read.
+/// Answers a question from exports, if they were read.
 fn ask_exports(
     alloc: Global,
     exports: Result<CrossModuleExports<'_>>,
@@ -226,7 +226,7 @@ fn ask_exports(
     exported_text(alloc, &exports?, question)
 }
 
-/// Returns the exports, or what a type's or an id's index stands for.
+/// Returns the exports, or the item that a type's or an id's index stands for.
 fn exported_text(
     alloc: Global,
     exports: &CrossModuleExports<'_>,

@@ -11,7 +11,7 @@ use std::alloc::Global;
 /// is their size, and the second one the length in bytes to which they are cut.
 ///
 /// # Errors
-/// `UnimplementedFeature` for a case that there isn't; `OutOfMemory`.
+/// `UnimplementedFeature` for an unknown case; `OutOfMemory`.
 pub fn pages_text(alloc: Global, question: &Question<'_>) -> Result<String> {
     let (size, length, _) = question.numbers;
     if size == 0 || size > 0x10000 {

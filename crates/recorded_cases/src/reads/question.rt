@@ -1,15 +1,15 @@
-//! What a case asks for.
+//! The questions of cases.
 
-/// What a case asks for.
+/// The task of a case.
 #[derive(Clone, Copy)]
 pub enum Task {
     /// The primitive type with an index.
     Primitive,
-    /// What a type's record says.
+    /// The content of a type's record.
     Type,
-    /// What an id's record says.
+    /// The content of an id's record.
     Id,
-    /// What attributes of types, members and pointers mean.
+    /// The meaning of attributes of types, members and pointers.
     Attributes,
     /// Bytes as a text, in UTF-8.
     Text,
@@ -19,11 +19,11 @@ pub enum Task {
     Annotations,
     /// The symbols of a list from a place on.
     Symbols,
-    /// What the symbol at a place says.
+    /// The content of the symbol at a place.
     Symbol,
-    /// What the kind of the symbol at a place means.
+    /// The meaning of the kind of the symbol at a place.
     SymbolKind,
-    /// The first symbol at a place or later, and those after it.
+    /// The first symbol at a place or later, and the symbols after it.
     SkipTo,
     /// The rows of a line program.
     Lines,
@@ -37,15 +37,15 @@ pub enum Task {
     Inlinees,
     /// The rows of an inlined call.
     Call,
-    /// What a type's index stands for in another module.
+    /// The item that a type's index stands for in another module.
     TypeImport,
-    /// What an id's index stands for in another module.
+    /// The item that an id's index stands for in another module.
     IdImport,
     /// The cross-module exports.
     Exports,
-    /// The type that an index leads to by the exports.
+    /// The type to which an index leads in the exports.
     TypeExport,
-    /// The id that an index leads to by the exports.
+    /// The id to which an index leads in the exports.
     IdExport,
     /// The bytes of a stream by its number.
     Raw,
@@ -57,11 +57,11 @@ pub enum Task {
     Name,
     /// The name at an offset of the string table as a text, in UTF-8.
     NameText,
-    /// What the information stream says.
+    /// The content of the information stream.
     Information,
     /// The names of streams.
     Names,
-    /// The machine and the age that the DBI stream says.
+    /// The machine and the age of the DBI stream.
     Debug,
     /// The modules.
     Modules,
@@ -75,13 +75,13 @@ pub enum Task {
     GlobalsAt,
     /// The section headers of the image.
     Sections,
-    /// What the header of the TPI says.
+    /// The content of the TPI's header.
     TypeTable,
     /// The types one by one.
     Types,
     /// The type with an index.
     FindType,
-    /// What the header of the IPI says.
+    /// The content of the IPI's header.
     IdTable,
     /// The ids one by one.
     Ids,
@@ -103,7 +103,7 @@ pub enum Task {
     ImageRange,
     /// A range of internal RVAs, converted.
     InternalRange,
-    /// How far the place of an internal RVA goes on.
+    /// The number of addresses over which the place of an internal RVA goes on.
     Run,
     /// Sums and differences of an RVA.
     ImageSums,
@@ -131,11 +131,11 @@ pub enum Subject<'q> {
 /// The question of a case.
 #[derive(Clone, Copy)]
 pub struct Question<'q> {
-    /// What the case asks for.
+    /// The task of the case.
     pub task: Task,
-    /// What it is asked of.
+    /// The subject that is asked about.
     pub subject: Subject<'q>,
-    /// Further bytes in hexadecimal, or how the file differs.
+    /// Further bytes in hexadecimal, or changes of the file.
     pub further: &'q str,
     /// Numbers, whose meaning depends on the task.
     pub numbers: (u32, u32, u32),

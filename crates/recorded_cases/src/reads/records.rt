@@ -7,40 +7,40 @@ use pdb_container_types::{PointerAttributes, TypeData, TypeIndex, type_data_for_
 use pdb_records::{parse_id_data, parse_type_data};
 use std::alloc::Global;
 
-/// Returns what the record of a type says.
+/// Returns the content of a type's record.
 ///
 /// # Errors
-/// As [`parse_type_data`]; `OutOfMemory`.
+/// The errors of [`parse_type_data`]; `OutOfMemory`.
 pub fn type_text(alloc: Global, bytes: &[u8]) -> Result<String> {
     shown_read(alloc, parse_type_data(alloc, bytes))
 }
 
-/// Returns what the record of an id says.
+/// Returns the content of an id's record.
 ///
 /// # Errors
-/// As [`parse_id_data`]; `OutOfMemory`.
+/// The errors of [`parse_id_data`]; `OutOfMemory`.
 pub fn id_text(alloc: Global, bytes: &[u8]) -> Result<String> {
     shown_read(alloc, parse_id_data(alloc, bytes))
 }
 
-/// Returns what a primitive type is.
+/// Returns the primitive type of an index.
 ///
 /// # Errors
-/// As [`type_data_for_primitive`]; `OutOfMemory`.
+/// The errors of [`type_data_for_primitive`]; `OutOfMemory`.
 pub fn primitive(alloc: Global, index: u32) -> Result<String> {
     shown_read(alloc, type_data_for_primitive(TypeIndex(index)))
 }
 
-/// Returns what the attributes of a type's record mean.
+/// Returns the meaning of the attributes of a type's record.
 ///
 /// # Errors
-/// As [`parse_type_data`], a case that there isn't; `OutOfMemory`.
+/// The errors of [`parse_type_data`], an unknown case; `OutOfMemory`.
 pub fn attributes_text(alloc: Global, bytes: &[u8]) -> Result<String> {
     let data = parse_type_data(alloc, bytes)?;
     attributes_of(alloc, &data)
 }
 
-/// Returns what the attributes of a type mean.
+/// Returns the meaning of a type's attributes.
 fn attributes_of(alloc: Global, data: &TypeData<'_>) -> Result<String> {
     match data {
         TypeData::Pointer(pointer) => pointer_text(alloc, pointer.attributes),

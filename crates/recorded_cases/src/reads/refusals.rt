@@ -1,4 +1,4 @@
-//! What is reported of refused memory.
+//! The reports of refused memory.
 
 use std::io;
 

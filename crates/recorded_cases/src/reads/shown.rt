@@ -12,10 +12,10 @@ pub fn shown<T: Debug>(alloc: Global, value: &T) -> Result<String> {
     Ok(format!(in alloc; "{value:?}")?)
 }
 
-/// Returns what was read, as a text.
+/// Returns a value that was read, as a text.
 ///
 /// # Errors
-/// The fault of reading it; `OutOfMemory`.
+/// The fault of reading the value; `OutOfMemory`.
 pub fn shown_read<T: Debug + Drop>(alloc: Global, read: Result<T>) -> Result<String> {
     shown(alloc, &read?)
 }
@@ -29,8 +29,8 @@ pub fn push<T: Debug>(alloc: Global, text: &mut String, value: &T) -> Result<()>
     Ok(text.push_str(shown.as_str())?)
 }
 
-/// Lists what an iterator answers up to its end: each item with `; ` after it, and then `end` or
-/// its fault. If anything comes after that, the text says so.
+/// Lists the items that an iterator gives up to its end: each with `; ` after it, and then `end` or
+/// its fault. If anything comes after the end, the text says so.
 ///
 /// # Errors
 /// `OutOfMemory`.
@@ -54,7 +54,7 @@ pub fn listed<T: Debug + Drop, I: FallibleIterator<Item = T, Error = Error>>(
     Ok(text)
 }
 
-/// Returns how a list ends, as a text.
+/// Returns the end of a list, as a text.
 fn end_text<T: Drop>(alloc: Global, end: Result<Option<T>>) -> Result<String> {
     match end {
         Ok(_) => Ok("end".to_string(alloc)?),

@@ -1,4 +1,4 @@
-//! Sums of addresses, and primitive types: what numbers are asked for.
+//! Sums of addresses, and primitive types: the questions about numbers.
 
 use crate::reads::question::{Question, Task};
 use crate::reads::records;
@@ -7,10 +7,10 @@ use pdb_container::Result;
 use pdb_container_types::{PdbInternalRva, PdbInternalSectionOffset, Rva, SectionOffset};
 use std::alloc::Global;
 
-/// Answers a question by a number and further ones.
+/// Answers a question from a number and further ones.
 ///
 /// # Errors
-/// As [`records::primitive`]; `OutOfMemory`.
+/// The errors of [`records::primitive`]; `OutOfMemory`.
 pub fn ask(alloc: Global, number: u32, question: &Question<'_>) -> Result<String> {
     let (other, _, _) = question.numbers;
     match question.task {

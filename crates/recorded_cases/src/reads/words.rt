@@ -4,7 +4,7 @@ use hex::FromHexError;
 use pdb_container::{Error, Result};
 use std::alloc::Global;
 
-/// Returns the error for a case that there isn't.
+/// Returns the error for an unknown case.
 pub fn not_a_case() -> Error {
     Error::UnimplementedFeature("no such case")
 }
@@ -24,10 +24,10 @@ pub fn bytes_of(alloc: Global, word: &str) -> Result<Vec<u8>> {
     }
 }
 
-/// Writes bytes over those of a file, as `PLACE:BYTES,PLACE:BYTES`; `-` changes none.
+/// Writes bytes over a file's, as `PLACE:BYTES,PLACE:BYTES` says; `-` changes none.
 ///
 /// # Errors
-/// As [`bytes_of`].
+/// The errors of [`bytes_of`].
 pub fn change(alloc: Global, file: &mut [u8], changes: &str) -> Result<()> {
     for change in changes.split(',') {
         change_place(alloc, file, change)?;
@@ -44,7 +44,7 @@ fn change_place(alloc: Global, file: &mut [u8], change: &str) -> Result<()> {
     Ok(())
 }
 
-/// Writes bytes over those of a file from a place on.
+/// Writes bytes over a file's from a place on.
 fn write_over(file: &mut [u8], place: usize, bytes: &[u8]) {
     for (old, new) in file.iter_mut().skip(place).zip(bytes) {
         *old = *new;

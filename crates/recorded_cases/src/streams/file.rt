@@ -24,7 +24,7 @@ const PAGE_SIZE: usize = 4096;
 /// last page and from the last to the first.
 const RUN_PAGES: u32 = 128;
 
-/// The page that lists those of the directory. Before it lie the header and two pages that a reader
+/// The page that lists the directory's pages. Before it lie the header and two pages that a reader
 /// skips.
 const LIST_PAGE: u32 = 3;
 
@@ -54,7 +54,7 @@ pub fn container_of(alloc: Global, streams: u32, stream_pages: u32) -> Result<Ve
     Ok(file)
 }
 
-/// Returns where that many pages end, in bytes.
+/// Returns the end of that many pages, in bytes.
 fn end_of(pages: u32) -> usize
     ensures { result ≡ 4096 * pages }
 {
@@ -140,7 +140,7 @@ fn push_page_numbers(file: &mut Vec<u8>, first: u32, count: u32) -> Result<(), A
     Ok(())
 }
 
-/// Returns which of the streams' pages is read at an index among them. Those after the last whole
+/// Returns the page of the streams that is read at an index among them. Pages after the last whole
 /// run lie in order.
 fn page_at(place: u32, count: u32) -> u32
     requires { place + 128 < 2 ^ 32 }
@@ -162,7 +162,7 @@ fn push_content(file: &mut Vec<u8>, pages: u32) -> Result<(), AllocError> {
     Ok(())
 }
 
-/// Appends a page of bytes that differ from those of any other page.
+/// Appends a page of bytes that differ from any other page's.
 fn push_page(file: &mut Vec<u8>, seed: u32) -> Result<(), AllocError> {
     let mut number = seed;
     for _ in 0..PAGE_SIZE / 4 {

@@ -1,4 +1,4 @@
-//! How often a context asks for modules.
+//! The number of times that a context asks for modules.
 
 use crate::texts::question::{Asked, Question};
 use crate::texts::{Data, each_address, forgotten};
@@ -12,7 +12,7 @@ use pdb_addr2line::{
 use std::alloc::Global;
 use std::cell::Cell;
 
-/// Gives the modules of the data of a database, and counts how often it is asked.
+/// A provider of the modules of a database's data, which counts how often it is asked.
 #[derive(Drop)]
 struct CountingProvider {
     inner: Data,
@@ -50,13 +50,13 @@ type Database<'s> = PDB<'s, Vec<u8>>;
 /// `forgotten`.
 ///
 /// # Errors
-/// What can't be read of the database, or answered by it; out of memory.
+/// A database that can't be read, or can't answer; out of memory.
 pub fn ask(alloc: Global, bytes: Vec<u8>, question: &Question<'_>) -> Result<String, Error> {
     let mut database = PDB::open(alloc, bytes)?;
     ask_database(alloc, &mut database, question)
 }
 
-/// Answers as [`ask`], by an open database.
+/// Answers as [`ask`], from an open database.
 fn ask_database(
     alloc: Global,
     database: &mut Database<'static>,
@@ -68,7 +68,7 @@ fn ask_database(
     ask_counted(alloc, database, &provider, &provider.calls, question)
 }
 
-/// Answers as [`ask`], by a provider that counts how often it is asked.
+/// Answers as [`ask`], over a provider that counts how often it is asked.
 fn ask_counted<'s, P: ModuleProvider>(
     alloc: Global,
     database: &mut Database<'s>,
@@ -146,8 +146,8 @@ fn formatter_of<'d, 's, P: ModuleProvider>(
 /// Makes a context over what was read of a database.
 ///
 /// # Errors
-/// `CircularTypeDefinition` for an address map that isn't ordered, what can't be read of the
-/// database; out of memory.
+/// `CircularTypeDefinition` for an address map that isn't ordered, a database that can't be read;
+/// out of memory.
 pub fn context_of<'d, 's, P: ModuleProvider>(
     alloc: Global,
     provider: &'d P,

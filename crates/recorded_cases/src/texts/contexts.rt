@@ -11,7 +11,7 @@ use std::fmt::Debug;
 /// that isn't ordered there is none, and the answer says so.
 ///
 /// # Errors
-/// What the context can't answer; out of memory.
+/// A question that the context can't answer; out of memory.
 pub fn ask(alloc: Global, data: &Data, question: &Question<'_>) -> Result<String, Error> {
     if !data.address_map().is_ordered() {
         return shown(alloc, &"not ordered");
@@ -93,7 +93,7 @@ fn shared_text<P: ModuleProvider>(
 /// address as `functions`.
 ///
 /// # Errors
-/// What the context can't answer; out of memory.
+/// A question that the context can't answer; out of memory.
 pub fn answer_by<P: ModuleProvider>(
     alloc: Global,
     context: &mut Context<'_, '_, P>,
@@ -110,8 +110,8 @@ pub fn answer_by<P: ModuleProvider>(
     }
 }
 
-/// Returns the function at an offset of section 1, how far it goes on, and how many places were
-/// looked up.
+/// Returns the function at an offset of section 1, how far it goes on, and the number of places
+/// that were looked up.
 fn run_text<P: ModuleProvider>(
     alloc: Global,
     context: &mut Context<'_, '_, P>,
@@ -127,8 +127,8 @@ fn run_text<P: ModuleProvider>(
     }
 }
 
-/// Returns the source file at an offset of section 1, how far it goes on, and how many places were
-/// looked up.
+/// Returns the source file at an offset of section 1, how far it goes on, and the number of places
+/// that were looked up.
 fn file_run_text<P: ModuleProvider>(
     alloc: Global,
     context: &mut Context<'_, '_, P>,
@@ -156,7 +156,7 @@ fn file_run_again_text<P: ModuleProvider>(
     file_run_text(alloc, context, offset)
 }
 
-/// Returns how many entries the public list has, and all functions.
+/// Returns the number of entries of the public list, and all functions.
 ///
 /// # Errors
 /// Functions that can't be read; out of memory.

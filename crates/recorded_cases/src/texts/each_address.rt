@@ -1,4 +1,4 @@
-//! How often contexts ask for modules at each address of a range.
+//! The number of times that contexts ask for modules at each address of a range.
 
 use crate::texts::calls::{Parts, context_of};
 use crate::texts::contexts::functions_text;
@@ -11,14 +11,14 @@ use std::cell::Cell;
 /// The number of addresses of a range: the 256 of a section at 0x1000, and 16 on each side of it.
 const ADDRESSES: u32 = 288;
 
-/// What a context is asked for at an address.
+/// A question that a context is asked about an address.
 #[derive(Clone, Copy, Debug)]
 enum Query {
-    /// The frames there.
+    /// The frames at the address.
     Frames,
-    /// The function there.
+    /// The function at the address.
     Function,
-    /// How far that function goes on in section 1, which begins at 0x1000.
+    /// The length of the function's run in section 1, which begins at 0x1000.
     Run,
     /// All functions, whatever the address.
     Functions,
@@ -53,8 +53,8 @@ fn ask_context<P: ModuleProvider>(
     Ok(())
 }
 
-/// Returns at how many of the addresses a new context with that query asks for modules, and how
-/// often such contexts do when they are asked again.
+/// Returns the number of the addresses at which a new context with that query asks for modules, and
+/// how often such contexts ask when they are asked again.
 fn ask_new_contexts<P: ModuleProvider>(
     alloc: Global,
     provider: &P,
@@ -92,8 +92,8 @@ fn ask_everything<P: ModuleProvider>(
     Ok(())
 }
 
-/// Returns how often a context that was asked for everything asks for modules when it is asked
-/// again.
+/// Returns the number of times that a context that was asked for everything asks for modules when
+/// it is asked again.
 fn ask_one_context<P: ModuleProvider>(
     alloc: Global,
     context: &mut Context<'_, '_, P>,
@@ -106,12 +106,12 @@ fn ask_one_context<P: ModuleProvider>(
     Ok(calls.get().saturating_sub(first))
 }
 
-/// Returns for each query at how many addresses a new context asks for modules, and how often such
-/// contexts do when they are asked again. At last it returns how often one context does that is
-/// asked for everything again.
+/// Returns for each query the number of addresses at which a new context asks for modules, and how
+/// often such contexts ask when they are asked again. At last it returns how often one context asks
+/// that is asked for everything again.
 ///
 /// # Errors
-/// What a context can't answer; out of memory.
+/// A question that a context can't answer; out of memory.
 pub fn ask<P: ModuleProvider>(
     alloc: Global,
     provider: &P,

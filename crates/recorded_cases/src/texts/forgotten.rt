@@ -13,7 +13,8 @@ const ADDRESSES: u32 = 288;
 /// The distance between the addresses about which it is asked again.
 const STEP: usize = 8;
 
-/// Returns at how many of the addresses a context that is asked for the frames asks for modules.
+/// Returns the number of the addresses at which a context that is asked for the frames asks for
+/// modules.
 fn asking<P: ModuleProvider>(
     alloc: Global,
     context: &mut Context<'_, '_, P>,
@@ -29,7 +30,7 @@ fn asking<P: ModuleProvider>(
     Ok(asking)
 }
 
-/// Returns at how many of every eighth address a context's frames are those of a new context.
+/// Returns, of every eighth address, the number at which a context's frames are a new context's.
 fn alike<P: ModuleProvider>(
     alloc: Global,
     context: &mut Context<'_, '_, P>,
@@ -48,8 +49,9 @@ fn alike<P: ModuleProvider>(
     Ok(alike)
 }
 
-/// Returns at how many of the addresses a context that is asked for the frames asks for modules.
-/// Then it returns at how many of every eighth address its frames are those of a new context.
+/// Returns the number of the addresses at which a context that is asked for the frames asks for
+/// modules. Then it returns, of every eighth address, the number at which its frames are a new
+/// context's.
 ///
 /// # Errors
 /// Frames that can't be read; out of memory.

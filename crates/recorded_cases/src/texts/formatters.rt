@@ -9,7 +9,7 @@ use std::alloc::Global;
 /// Answers a question by a formatter with the question's flags.
 ///
 /// # Errors
-/// What the formatter can't answer; out of memory.
+/// A question that the formatter can't answer; out of memory.
 pub fn ask(alloc: Global, data: &Data, question: &Question<'_>) -> Result<String, Error> {
     let flags = question.formatter_flags();
     let formatter = data.make_type_formatter_with_flags(alloc, flags)?;
@@ -25,10 +25,10 @@ fn answer_by<P: ModuleProvider>(
     text_by(alloc, &mut formatter, question)
 }
 
-/// Answers a question by a formatter: any but those of functions and ids as `size`.
+/// Answers a question by a formatter: any but the questions of functions and ids as `size`.
 ///
 /// # Errors
-/// What the formatter can't answer; out of memory.
+/// A question that the formatter can't answer; out of memory.
 pub fn text_by<P: ModuleProvider>(
     alloc: Global,
     formatter: &mut TypeFormatter<'_, '_, P>,

@@ -5,8 +5,8 @@ use crate::texts::{ask as ask_bytes, told};
 use pdb_addr2line::Error;
 use std::alloc::Global;
 
-/// Answers a question by each prefix of a file. Returns each length from which on the answer is
-/// another one, with that answer.
+/// Answers a question from each prefix of a file. Returns each length from which on the answer is
+/// another one, with this answer.
 ///
 /// # Errors
 /// Out of memory; any other fault is an answer.
@@ -24,7 +24,7 @@ pub fn ask(alloc: Global, bytes: &[u8], question: &Question<'_>) -> Result<Strin
     Ok(text)
 }
 
-/// Returns the answer by a file's prefix of that length, or its fault after `fault: `.
+/// Returns the answer from a file's prefix of that length, or its fault after `fault: `.
 fn answer_at(
     alloc: Global,
     bytes: &[u8],

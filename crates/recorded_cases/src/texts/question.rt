@@ -1,8 +1,8 @@
-//! What a case of texts asks for.
+//! The questions of cases of texts.
 
 use pdb_addr2line::{Flags, TypeFormatterFlags};
 
-/// What a case or a line of questions asks for.
+/// The kind of a question of a case or of a line.
 #[derive(Clone, Copy)]
 pub enum Asked {
     /// The signature of a function of a type.
@@ -23,24 +23,24 @@ pub enum Asked {
     FramesAt,
     /// The frames at an RVA, with shared names.
     SharedAt,
-    /// How far the function at a place goes on.
+    /// The run of the function at a place.
     RunFrom,
-    /// How far the source file of a place goes on.
+    /// The run of the source file of a place.
     FileRunFrom,
-    /// How far the source file of a place goes on, by a context that was asked for its frames
-    /// before.
+    /// The run of the source file of a place, from a context that was asked for its frames before.
     FileRunAgain,
     /// All functions.
     Functions,
-    /// How often contexts that were asked before ask for modules, at each of many addresses.
+    /// The number of times that contexts that were asked before ask for modules, at each of many
+    /// addresses.
     EachAgain,
-    /// The frames at each of many addresses, by a context that forgets.
+    /// The frames at each of many addresses, from a context that forgets.
     Forgotten,
     /// The frames at an RVA, in every prefix of the file.
     Prefixes,
 }
 
-/// What a case asks for, by the word for it.
+/// The kinds of questions, each by its word.
 const ASKED: &[(&str, Asked)] = &[
     ("function", Asked::Function),
     ("unnamed", Asked::Unnamed),
@@ -60,7 +60,7 @@ const ASKED: &[(&str, Asked)] = &[
     ("prefixes", Asked::Prefixes),
 ];
 
-/// Returns what a word asks for. An unknown word asks for all functions.
+/// Returns the kind of question of a word. An unknown word asks for all functions.
 fn asked_of(word: &str) -> Asked {
     for (name, asked) in ASKED {
         if word == *name {
@@ -73,7 +73,7 @@ fn asked_of(word: &str) -> Asked {
 /// The question of a case or a line of questions.
 #[derive(Clone, Copy)]
 pub struct Question<'q> {
-    /// What the case asks for.
+    /// The kind of the question.
     pub asked: Asked,
     /// The database's file.
     pub file: &'q str,
