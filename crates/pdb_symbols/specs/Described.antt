@@ -1,4 +1,4 @@
--- How the records that say whose a symbol file is are made.
+-- The records that identify a symbol file's database and its image.
 use Rattle.std.specs.Prelude.{◌≡◌, ℕ, List, Option, option_map, Result, Ok, Err, string_bytes}
 use Rattle.pdb_addresses.specs.declared.sections.ImageSectionHeader.{ImageSectionHeader}
 use Rattle.pdb_addr2line.specs.Identity.{identity_in}
@@ -17,7 +17,7 @@ use Rattle.pdb_symbols_modules.specs.Streams.{streams}
 use Rattle.pdb_symbols_modules.specs.declared.machine.MachineType.{MachineType}
 use Rattle.pdb_symbols_modules.specs.declared.machine.MachineType.TheVariants as machines
 
--- what options ask for
+-- the paths that options name, and whether they ask for inlined calls
 abbrev pub asked_of : Options → Asked
 asked_of o = record {
   path = string_bytes o.file;
@@ -25,7 +25,7 @@ asked_of o = record {
   inlines = o.inlines;
 }
 
--- the number of a machine (IMAGE_FILE_MACHINE_*), of those that records name
+-- the number of a machine (IMAGE_FILE_MACHINE_*), of the machines that records name
 abbrev pub machine_number : MachineType → ℕ
 machine_number machines.Amd64 = 0x8664
 machine_number machines.Arm64 = 0xaa64
@@ -40,8 +40,8 @@ RefusesImage ends.ImageNamesNoPdb image = image ≡ Err ImageNamesNoPdb
 RefusesImage ends.OtherBuild image = image ≡ Err OtherBuild
 RefusesImage e image = ⊥
 
--- The records that say whose a symbol file is are those of a database that was loaded, and of its
--- image.
+-- The records that identify a symbol file's database and its image are those of a database that was
+-- loaded, and of its image.
 pub record IsDescribed (asked : Asked) (bytes : Option (List ℕ)) (file first : List ℕ)
     (sections : List ImageSectionHeader) (image : Option Image) (i : PdbIdentity) : Type 0 where
   pub held : Held

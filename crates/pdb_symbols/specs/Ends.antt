@@ -1,4 +1,4 @@
--- How a call that writes a symbol file may fail.
+-- The faults of a call that writes a symbol file.
 use Rattle.std.specs.Prelude.{◌≡◌}
 use Rattle.pdb_loading.specs.declared.on_demand.FileFault.{FileFault}
 use Rattle.pdb_loading.specs.declared.on_demand.FileFault.TheVariants as files
@@ -19,7 +19,7 @@ IsReadFault (ends.Load faults.OutOfMemory) = Unit {0}
 IsReadFault (ends.File kind) = Unit {0}
 IsReadFault e = ⊥
 
--- a fault of a file that is read on demand is that of loading, or of reading
+-- a fault of a file that is read on demand is a fault of loading, or of reading
 abbrev pub IsFaultOfFile : FileFault → SymbolsFault → Type 0
 IsFaultOfFile (files.Load fault) e = e ≡ ends.Load fault
 IsFaultOfFile (files.File kind) e = IsReadFault e

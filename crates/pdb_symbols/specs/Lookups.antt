@@ -1,5 +1,5 @@
--- At which addresses something else may be told than of the one before, so that a database is
--- looked up again.
+-- The addresses at which the answer may differ from the one before, so that a database is looked up
+-- again.
 use Rattle.std.specs.Prelude.{◌≡◌, ℕ, ◌-◌, ◌*◌, ◌<◌, ◌≤◌, Bool, true, false, ◌||◌, List, Option}
 use Rattle.std.specs.Prelude.{None, Some, Result, Ok, Err}
 use Rattle.pdb_addresses.specs.Addresses.{Map, inner_place}
@@ -28,11 +28,11 @@ use Rattle.pdb_symbols_modules.specs.Streams.{Streams, streams}
 abbrev pub is_bound_of : Database Function → Database (Option FunctionFrames) → Place → Bool
 is_bound_of functions frames p = functions.is_bound p || frames.is_bound p
 
--- the same by what a context answers
+-- the same from a context's answers
 abbrev pub is_bound_for : Context (List KeptInfo) → Place → Bool
 is_bound_for c p = is_bound_of (database_in answered_in c) (frames_in answered_in c) p
 
--- the same by a file that is read on demand
+-- the same from a file that is read on demand
 abbrev pub is_bound_by : FileAnswers → Place → Bool
 is_bound_by f p =
     is_bound_of (database_named f.flags f.order (streams f.contents))
@@ -55,21 +55,22 @@ abbrev pub begins_if : Option Map → Database Function → Database (Option Fun
 begins_if None functions frames a = false
 begins_if (Some m) functions frames a = begins_by m functions frames a
 
--- the same by a file's streams; nowhere in one that isn't loaded
+-- the same from a file's streams; nowhere in a file that isn't loaded
 unfoldable pub begins_named : ℕ → ContributionOrder → Streams → ℕ → Bool
 begins_named flags order s a =
     begins_if (map_with order s) (database_named flags order s) (frames_named flags order s) a
 
--- the same by a file that is read on demand
+-- the same from a file that is read on demand
 abbrev pub begins_of : FileAnswers → ℕ → Bool
 begins_of f = begins_named f.flags f.order (streams f.contents)
 
--- how many pieces the addresses have at which code may run, by what was loaded of a file
+-- the number of pieces of the addresses at which code may run, from what was loaded of a file
 abbrev pub pieces_by : Streams → Result Loaded LoadingFault → ℕ
 pieces_by s (Ok l) = pieces_of_code l.tables.map.image (begins_named 23 Any s)
 pieces_by s (Err e) = 0
 
--- how many pieces the addresses of a file have at which code may run; none of one that isn't loaded
+-- the number of pieces of the addresses of a file at which code may run; 0 for a file that isn't
+-- loaded
 unfoldable pub pieces_in : Streams → ℕ
 pieces_in s = pieces_by s (loaded_with Any (shared s))
 
@@ -79,7 +80,7 @@ pieces_in s = pieces_by s (loaded_with Any (shared s))
 abbrev pub AreFewLookups : List ℕ → ℕ → Type 0
 AreFewLookups file lookups = lookups ≤ 2 * pieces_in (streams file)
 
--- by how much a context's count of lookups rose
+-- the rise of a context's count of lookups
 abbrev pub rise : Option (Context (List KeptInfo)) → Option (Context (List KeptInfo)) → ℕ
 rise (Some old) (Some new) = new.lookups - old.lookups
 rise (Some old) None = 0

@@ -20,7 +20,7 @@ is_in_word b = not (b == 32)
 abbrev pub IsUnbroken : List ℕ → Type 0
 IsUnbroken text = AllPass is_in_line text
 
--- a text is a line, a newline and what comes after
+-- a text is a line, a newline and the text after it
 pub record SplitsLine (text line after : List ℕ) : Type 0 where
   pub unbroken : IsUnbroken line
   pub whole : text ≡ line ++ 10 ∷ after
@@ -36,8 +36,8 @@ name_of_line line =
 abbrev pub is_decorated : List ℕ → Bool
 is_decorated name = nat_le 3 (length name) && (slice_index name 0 == 63)
 
--- A text is that of a decorated name: what was printed for it, as a symbol file has texts. For a
--- string literal that is the literal.
+-- A text is that of a decorated name: the text that was printed for it, as a symbol file has texts.
+-- For a string literal this is the literal.
 pub record IsUndecorated (name text : List ℕ) : Type 0 where
   pub printed : List ℕ
   pub decorated : is_decorated name ≡ true
@@ -45,11 +45,11 @@ pub record IsUndecorated (name text : List ℕ) : Type 0 where
   pub literal : IsTrue (is_literal name) → literal_name name ≡ Some printed
   pub is : text ≡ told_text (Some (utf8_lossy printed))
 
--- what may stand for a name: the name itself, or the text of a decorated one
+-- a text that may stand for a name: the name itself, or the text of a decorated one
 abbrev pub IsNameText : List ℕ → List ℕ → Type 0
 IsNameText name text = (text ≡ name) ⊎ IsUndecorated name text
 
--- a line with a text for its name, and what stands before that as it was
+-- a line with a text for its name, and the bytes before the name as they were
 pub record IsNamed (line named : List ℕ) : Type 0 where
   pub before : List ℕ
   pub text : List ℕ
@@ -80,8 +80,8 @@ pub record NamesLines (text rest named : List ℕ) : Type 0 where
   pub stored : text ≡ stored_lines lines ++ rest
   pub written : named ≡ named_lines lines
 
--- A text is lines, and another text is the same lines with other texts for their names. What no
--- newline ends stays.
+-- A text is lines, and another text is the same lines with other texts for their names. A rest that
+-- no newline ends stays.
 pub record IsRenamed (text named : List ℕ) : Type 0 where
   pub rest : List ℕ
   pub front : List ℕ

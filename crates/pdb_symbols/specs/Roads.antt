@@ -1,4 +1,5 @@
--- What a consumer says by the text of a symbol file: the law of two roads, and that of names.
+-- The frames that a consumer says from the text of a symbol file: the law of two roads, and the law
+-- of names.
 use Rattle.std.specs.Prelude.{◌≡◌, ◌++◌, ℕ, Bool, true, false, List, [], ◌∷◌, Option, Result, Ok, Err}
 use Rattle.std.specs.Io.KnownBytes.{Appends}
 use Rattle.pdb_loading.specs.Loading.{Loaded, LoadingFault, loaded_with}
@@ -15,7 +16,7 @@ use Rattle.pdb_symbols_modules.specs.Streams.{Streams}
 
 -- ---- names
 
--- each of some is as the one in its place among others, and they are as many
+-- two lists have equally many elements, and a relation holds of the two at each place
 abbrev pub ArePairs : {A : Type 0} → (A → A → Type 0) → List A → List A → Type 0
 ArePairs P [] [] = Unit {0}
 ArePairs P [] (y ∷ ys) = ⊥
@@ -26,7 +27,7 @@ ArePairs P (x ∷ xs) (y ∷ ys) = P x y × ArePairs P xs ys
 abbrev pub IsFrameNamed : Shown → Shown → Type 0
 IsFrameNamed a b = IsNameText a.name b.name × (b.file ≡ a.file) × (b.line ≡ a.line)
 
--- The law of names: by a text with the names of functions undecorated a consumer says the same of
+-- The law of names: from a text with the names of functions undecorated a consumer says the same of
 -- each address, frame by frame, but for names.
 abbrev pub KeepsFrames : List ℕ → List ℕ → Type 0
 KeepsFrames text named =
@@ -34,15 +35,15 @@ KeepsFrames text named =
 
 -- ---- a whole symbol file
 
--- the frames that are told of an address, by what was loaded of a database
+-- the frames that are told of an address, from what was loaded of a database
 abbrev pub frames_by : Bool → Streams → Result Loaded LoadingFault → ℕ → List Shown
 frames_by inlines s (Ok l) address =
     shown_at l.tables.map.image (told_named inlines 23 Any s) address
 frames_by inlines s (Err e) address = []
 
--- The frames of an address of a database, innermost first, as a symbol file has their texts: those
--- that the report on lines has, where code may run. Nothing of any other address, nor where frames
--- can't be read.
+-- The frames of an address of a database, innermost first, as a symbol file has their texts: the
+-- frames that the report on lines has, where code may run. Nothing of any other address, nor where
+-- frames can't be read.
 unfoldable pub frames_told : Bool → Streams → ℕ → List Shown
 frames_told inlines s address = frames_by inlines s (loaded_with Any (shared s)) address
 

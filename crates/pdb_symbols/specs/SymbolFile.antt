@@ -1,4 +1,4 @@
--- What a symbol file says of a database and its image, and why there is none.
+-- The symbol file of a database and its image, and its refusal.
 use Rattle.std.specs.Prelude.{◌≡◌, ◌⊎◌, ℕ, ◌-◌, ◌^◌, ◌++◌, ◌&&◌, ◌==◌, Bool, true, false, IsTrue, List, []}
 use Rattle.std.specs.Prelude.{drop, if◌then◌else◌, Option, None, Some, Result, Ok, Err}
 use Rattle.std.specs.Fmt.{digits, format_spec, padded_integral}
@@ -50,7 +50,7 @@ guid_name guid = guid_numbers guid ++ flat_map (λ byte. padded 2 byte) (drop 8 
 abbrev pub identity_name : PdbIdentity → List ℕ
 identity_name i = guid_name i.guid ++ hexadecimal i.age
 
--- what is asked for: by the paths of a database and of its image, with inlined calls or without
+-- the paths of a database and of its image, and whether inlined calls are asked for
 pub record Asked : Type 0 where
   pub path : List ℕ
   pub image_path : Option (List ℕ)
@@ -63,14 +63,14 @@ image_record (Some image) None = []
 image_record (Some image) (Some path) =
     code_id_text image.time_stamp image.size_of_image path
 
--- the records that say whose a symbol file is
+-- the records that identify a symbol file's database and its image
 abbrev pub first_records : Asked → ℕ → PdbIdentity → Option Image → List ℕ
 first_records asked machine i image =
     module_text machine (identity_name i) asked.path ++ image_record image asked.image_path
 
 -- ---- a symbol file
 
--- why there is no symbol file
+-- the refusal of a symbol file
 pub data Refusal : Type 0 where
   Load : LoadingFault → Refusal
   ImageFault : ImageError → Refusal
@@ -98,7 +98,7 @@ build_of i image = do
   r ← in_image (code_view_of image)
   named_build i r
 
--- the image in bytes, which is of that build
+-- the image in bytes, which is of the build of an identity
 unfoldable pub image_in : PdbIdentity → List ℕ → Result (Option Image) Refusal
 image_in i bytes = do
   image ← in_image (image_of bytes)
@@ -110,14 +110,15 @@ abbrev pub image_if : PdbIdentity → Option (List ℕ) → Result (Option Image
 image_if i None = Ok None
 image_if i (Some bytes) = image_in i bytes
 
--- a symbol file: the records that say whose it is, those of its functions, and how they are unwound
+-- a symbol file: the records that identify its database and its image, the records of its
+-- functions, and how these are unwound
 pub record SymbolFile : Type 0 where
   pub first : List ℕ
   pub records : SymbolRecords
   pub unwinding : List ℕ
 
--- that of a database that was loaded: its functions are told by its frames at the addresses at
--- which code may run
+-- the symbol file of a database that was loaded: its functions are told from its frames at the
+-- addresses at which code may run
 abbrev pub file_of : Asked → Streams → Loaded → PdbIdentity → Option Image → SymbolFile
 file_of asked s l i image = record {
   first = first_records asked (l.debug_information).machine i image;
@@ -126,8 +127,8 @@ file_of asked s l i image = record {
   unwinding = text_of_image image;
 }
 
--- The symbol file of a database by its streams, and of the bytes of an image if there are any. The
--- database is loaded, then come its identity and the image.
+-- The symbol file of a database from its streams, and from the bytes of an image if there are any.
+-- The database is loaded, then come its identity and the image.
 unfoldable pub symbol_file : Asked → Option (List ℕ) → Streams → Result SymbolFile Refusal
 symbol_file asked bytes s = do
   l ← in_loading (loaded_with Any (shared s))
@@ -144,9 +145,9 @@ pub record IsMade (f : SymbolFile) (head functions : List ℕ) (image : Option I
   pub records : HasRecords head functions f.first f.records
   pub unwinding : text_of_image image ≡ f.unwinding
 
--- ---- how a call ends
+-- ---- the end of a call
 
--- The fault is that of loading; or that of the identity, where the file loads.
+-- The fault is loading's; or the identity's, where the file loads.
 abbrev pub FailsToLoad : LoadFault → Streams → Type 0
 FailsToLoad e s = Refuses e (load_fault_with Any s)
     ⊎ ((load_fault_with Any s ≡ None) × FailsLoading e (identity_in s))
@@ -172,14 +173,14 @@ pub record IsWritten (demangle : Bool) (f : SymbolFile) (old new : Option (List 
   pub back : ReadsBack f.records
   pub appends : Appends old new (named ++ f.unwinding)
 
--- A prefix of it was.
+-- A prefix of a symbol file was written.
 pub record IsPartWritten (demangle : Bool) (f : SymbolFile) (old new : Option (List ℕ))
     : Type 0 where
   pub named : List ℕ
   pub is : IsNamedText demangle (text_of f) named
   pub appends : AppendsFront old new (named ++ f.unwinding)
 
--- What a call that writes the symbol file of a database leaves: the file; or nothing, with the
+-- The effect of a call that writes the symbol file of a database: the file; or nothing, with the
 -- fault that it has; or a prefix, where writing fails.
 abbrev pub WritesSymbols : Bool → Bool → Result SymbolFile Refusal → Streams → Option (List ℕ)
     → Option (List ℕ) → Result (Unit {0}) SymbolsFault → Type 0

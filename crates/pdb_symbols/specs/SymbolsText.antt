@@ -13,12 +13,12 @@ use Rattle.pdb_symbols.specs.NamedLines.{IsRenamed}
 use Rattle.pdb_symbols.specs.UnwindingText.{text_of_image}
 use Rattle.pdb_symbols.specs.declared.writing.FileText.{FileText}
 
--- the FILE and INLINE_ORIGIN records, and then the FUNC records with what is below them
+-- the FILE and INLINE_ORIGIN records, and then the FUNC records with the records below them
 abbrev pub records_text : SymbolRecords → List ℕ
 records_text r = numbers_text r ++ functions_text r
 
--- Two texts are those of records: what stands before the first FUNC record, after a head, and the
--- FUNC records with what is below them. A consumer reads them back as these records.
+-- Two texts are those of records: the records before the first FUNC record, after a head, and the
+-- FUNC records with the records below them. A consumer reads them back as these records.
 pub record HasRecords (before functions head : List ℕ) (r : SymbolRecords) : Type 0 where
   pub numbers : before ≡ head ++ numbers_text r
   pub functions_are : functions ≡ functions_text r
@@ -42,7 +42,7 @@ abbrev pub WritesNamed : Bool → List ℕ → Option (List ℕ) → Option (Lis
 WritesNamed demangle text old new =
     (named : List ℕ) × IsNamedText demangle text named × Appends old new named
 
--- a prefix of it was
+-- a prefix of such a text was written
 abbrev pub WritesNamedPart : Bool → List ℕ → Option (List ℕ) → Option (List ℕ) → Type 0
 WritesNamedPart demangle text old new =
     (named : List ℕ) × IsNamedText demangle text named × AppendsFront old new named
@@ -62,7 +62,7 @@ WritesText demangle text image old new =
     × IsNamedInParts demangle (string_bytes text.head) (string_bytes text.functions) named
     × Appends old new (named ++ text_of_image image)
 
--- a prefix of that was
+-- a prefix was written of such a text, and of how the functions of an image are unwound after it
 abbrev pub WritesTextPart : Bool → FileText → Option Image → Option (List ℕ) → Option (List ℕ)
     → Type 0
 WritesTextPart demangle text image old new =

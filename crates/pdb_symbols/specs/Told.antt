@@ -1,4 +1,4 @@
--- What a symbol file tells of a database's addresses.
+-- The answers for a database's addresses, as a symbol file tells them.
 use Rattle.std.specs.Prelude.{◌≡◌, ◌<◌, ℕ, ◌-◌, Bool, true, false, List, drop, length, Option, None, Some}
 use Rattle.std.specs.Prelude.{option_map}
 use Rattle.pdb_addresses.specs.Places.{Place}
@@ -23,40 +23,40 @@ abbrev pub frames_shown : Bool → List Frame → List Frame
 frames_shown true frames = frames
 frames_shown false frames = drop (length frames - 1) frames
 
--- where a function begins, if there is one
+-- the start of a function, if there is one
 abbrev pub start_of : Option Function → Option ℕ
 start_of function = option_map (λ f. f.start_rva) function
 
--- what is told of frames that were found, in a function that begins at an address, if that is known
+-- what is told of frames that were found, in a function that begins at an address, if it is known
 abbrev pub told_found : Bool → Option ℕ → Option FunctionFrames → Option Told
 told_found inlines start None = None
 told_found inlines start (Some found) = told_of start (frames_shown inlines found.frames)
 
 -- what is told of an address: of its frames, as the report on lines has them, in the function that
--- the report on a range has there; nothing where they can't be read
+-- the report on a range has there; nothing where the frames can't be read
 abbrev pub told_named : Bool → ℕ → ContributionOrder → Streams → ℕ → Option Told
 told_named inlines flags order s a =
     told_found inlines (start_of (function_named flags order s a))
     (readable (answer_named flags order s a))
 
--- what is told of a place, by the functions and the frames at places
+-- what is told of a place, from the functions and the frames at places
 abbrev pub told_place : Bool → Database Function → Database (Option FunctionFrames) → Place
     → Option Told
 told_place inlines functions frames p =
     told_found inlines (start_of (functions.answer p)) (found_by (frames.answer p))
 
--- the same by what a context answers
+-- the same from a context's answers
 abbrev pub told_place_in : Bool → Context (List KeptInfo) → Place → Option Told
 told_place_in inlines c p =
     told_place inlines (database_in answered_in c) (frames_in answered_in c) p
 
--- the same by a file that is read on demand
+-- the same from a file that is read on demand
 abbrev pub told_place_by : Bool → FileAnswers → Place → Option Told
 told_place_by inlines f p =
     told_place inlines (database_named f.flags f.order (streams f.contents))
     (frames_named f.flags f.order (streams f.contents)) p
 
--- what is told of an address by a file that is read on demand
+-- what is told of an address from a file that is read on demand
 abbrev pub told_by : Bool → FileAnswers → ℕ → Option Told
 told_by inlines f a = told_named inlines f.flags f.order (streams f.contents) a
 

@@ -1,4 +1,5 @@
--- The records of a symbol file that say how functions are unwound, and what of a text is out.
+-- The records of a symbol file that say how functions are unwound, and the part of a text that is
+-- out.
 use Rattle.std.specs.Prelude.{◌≡◌, ℕ, ◌++◌, List, [], Option, None, Some, Result, Ok, Err}
 use Rattle.std.specs.List.{flat_map}
 use Rattle.std.specs.Io.KnownBytes.{Appends}
@@ -13,7 +14,7 @@ use Rattle.pdb_image.specs.Texts.{records_text}
 abbrev pub unwound_text : List UnwoundFunction → List ℕ
 unwound_text functions = flat_map (λ f. records_text (records_of f)) functions
 
--- those of the functions that could be read
+-- the records of the functions that could be read
 abbrev pub text_if_read : Result (List UnwoundFunction) ImageError → List ℕ
 text_if_read (Ok functions) = unwound_text functions
 text_if_read (Err e) = []
@@ -22,7 +23,7 @@ text_if_read (Err e) = []
 unfoldable pub unwinding_text : Image → List ℕ
 unwinding_text image = text_if_read (functions_in image)
 
--- those of an image, if there is one
+-- the records of an image, if there is one
 abbrev pub text_of_image : Option Image → List ℕ
 text_of_image None = []
 text_of_image (Some image) = unwinding_text image

@@ -1,4 +1,5 @@
-//! Whose a symbol file is: the records that say so, and the image.
+//! The description of a symbol file: the records that identify its database and image, and the
+//! image.
 
 ghost use Rattle.std.specs.Prelude.{◌≡◌, Ok, IfErr, IfOk, OnOk, option_copied, option_map, string_bytes};
 ghost use Rattle.pdb_symbol_files.specs.Output.{IsAppended};
@@ -19,7 +20,7 @@ use pdb_symbol_files::{append_code_id, append_module};
 use pdb_symbols_modules::DebugInformation;
 use std::alloc::{AllocError, Global};
 
-/// The number of a machine (`IMAGE_FILE_MACHINE_*`), of those that records name.
+/// The number of a machine (`IMAGE_FILE_MACHINE_*`), of the machines that records name.
 fn machine_number(machine: MachineType) -> u16
     ensures { result ≡ machine_number_of machine }
 {
@@ -31,7 +32,7 @@ fn machine_number(machine: MachineType) -> u16
     }
 }
 
-/// The number of a database's machine, of those that records name.
+/// The number of a database's machine, of the machines that records name.
 #[tactic(auto, using(crate::proofs::HeadSteps::machine_same))]
 fn machine_in(information: &DebugInformation<'_>) -> u16
     ensures { machine_name result ≡ machine_name information.now.machine }
@@ -47,10 +48,11 @@ fn is_build(view: &CodeView<'_>, identity: &PdbIdentity) -> bool
     view.identity().matches(identity)
 }
 
-/// Checks that an image is of the build of a database's identity, and returns it.
+/// Checks that an image is of the build of a database's identity.
 ///
 /// # Errors
-/// `Image` where it can't be read whose it is, `ImageNamesNoPdb`, and `OtherBuild`.
+/// `Image` where it can't be read which database the image has, `ImageNamesNoPdb`, and
+/// `OtherBuild`.
 #[tactic(auto, unfolding(crate::specs::SymbolFile::build_of))]
 pub fn check_build(image: &Image<'_>, identity: &PdbIdentity) -> Result<(), SymbolsFault>
     ensures ok { OnOk result (build_of identity.now image.now ≡ Ok tt) }
@@ -66,7 +68,7 @@ pub fn check_build(image: &Image<'_>, identity: &PdbIdentity) -> Result<(), Symb
 /// The image in bytes, which is of the build of a database's identity.
 ///
 /// # Errors
-/// `Image` where the bytes are no image; those of [`check_build`].
+/// `Image` where the bytes are no image; the errors of [`check_build`].
 #[tactic(auto, unfolding(crate::specs::SymbolFile::image_in))]
 fn parse_image<'b>(
     identity: &PdbIdentity,
@@ -80,7 +82,7 @@ fn parse_image<'b>(
     Ok(Some(image))
 }
 
-/// The same where bytes are given.
+/// The image in bytes, if they are given, which is of the build of a database's identity.
 fn given_image<'b>(
     identity: &PdbIdentity,
     bytes: Option<&'b [u8]>,
@@ -113,7 +115,7 @@ fn append_image(
     append_code_id(alloc, time_stamp, size, path.as_str(), output)
 }
 
-/// The records that say whose a symbol file is.
+/// The records that identify a symbol file's database and its image.
 #[tactic(auto, using(crate::proofs::HeadSteps::first_made))]
 fn first_of(
     alloc: Global,
@@ -133,10 +135,10 @@ fn first_of(
     Ok(first)
 }
 
-/// Whose a symbol file is.
+/// The description of a symbol file.
 #[derive(Drop)]
 pub struct Described<'b> {
-    /// The records that say it.
+    /// The records that identify its database and its image.
     pub first: String,
     /// The headers of the image's sections.
     pub sections: Vec<ImageSectionHeader>,
@@ -144,11 +146,11 @@ pub struct Described<'b> {
     pub image: Option<Image<'b>>,
 }
 
-/// Whose the symbol file of a database is, by what is held of it, its identity, and the bytes of
-/// its image, if they are given.
+/// The description of the symbol file of a database, from what is held of it, its identity, and the
+/// bytes of its image, if they are given.
 ///
 /// # Errors
-/// Those of the image, or out of memory.
+/// The errors of the image, or out of memory.
 pub fn describe<'b>(
     alloc: Global,
     options: &Options,

@@ -1,4 +1,7 @@
-//! Where a symbol file is written.
+//! The place where a symbol file is written.
+
+ghost use Rattle.std.specs.Prelude.{IfErr};
+ghost use Rattle.pdb_symbols.specs.Ends.{FailsToWrite};
 
 use crate::fault::SymbolsFault;
 use crate::image_file::read_image;
@@ -29,7 +32,7 @@ fn size_of(file: &impl OpenFile) -> Option<u64> {
     }
 }
 
-/// What stands after the last slash of a path.
+/// The name of a file, after the last slash of its path.
 fn file_name(path: &str) -> &str {
     match path.rsplit_once('/') {
         Some((_, name)) => name,
@@ -45,21 +48,48 @@ fn stem_of(name: &str) -> &str {
     }
 }
 
-/// The folder and the path of a symbol file in a store.
+/// The path of a symbol file in a store.
 fn store_path(
     alloc: Global,
     store: &str,
     file: &str,
     identity: &PdbIdentity,
-) -> Result<(String, String), AllocError> {
+) -> Result<String, AllocError> {
     let name = file_name(file);
     let stem = stem_of(name);
-    let folder = format!(in alloc; "{store}/{name}/{identity}")?;
-    let path = format!(in alloc; "{folder}/{stem}.sym")?;
-    Ok((folder, path))
+    format!(in alloc; "{store}/{name}/{identity}/{stem}.sym")
 }
 
-/// Where a symbol file is written: to an output, or to a file.
+/// The folder of a path, before its last slash.
+fn folder_of(path: &str) -> &str {
+    match path.rsplit_once('/') {
+        Some((folder, _)) => folder,
+        None => "",
+    }
+}
+
+/// The path of the symbol file of a database with an identity in a store, in a folder that is
+/// there.
+///
+/// # Errors
+/// `OutputIsRead` where the database or the image is at that path; `Write`, or out of memory.
+fn path_in_store<S: Files + AllocGlobal>(
+    rt: &S,
+    options: &Options,
+    store: &str,
+    identity: &PdbIdentity,
+) -> Result<String, SymbolsFault>
+    ensures { IfErr result FailsToWrite }
+{
+    let path = store_path(rt.alloc(), store, options.file.as_str(), identity)?;
+    if is_read(rt, options, path.as_str())? {
+        return Err(SymbolsFault::OutputIsRead);
+    }
+    write_fault(fs::create_dir_all(rt, folder_of(path.as_str())))?;
+    Ok(path)
+}
+
+/// The place where a symbol file is written: an output, or a file.
 #[derive(Drop)]
 struct Place<F: Drop, W: Drop> {
     output: W,
@@ -93,15 +123,7 @@ impl<S: Files + AllocGlobal, W: Write + Drop> Destination<S> for Place<S::File, 
         let path = match &options.target {
             Target::Output => return Ok(()),
             Target::File(path) => path.clone()?,
-            Target::Store(store) => {
-                let (store, file) = (store.as_str(), options.file.as_str());
-                let (folder, path) = store_path(rt.alloc(), store, file, identity)?;
-                if is_read(rt, options, path.as_str())? {
-                    return Err(SymbolsFault::OutputIsRead);
-                }
-                write_fault(fs::create_dir_all(rt, folder.as_str()))?;
-                path
-            }
+            Target::Store(store) => path_in_store(rt, options, store.as_str(), identity)?,
         };
         self.opened = Some(open_output(rt, path)?);
         Ok(())

@@ -14,7 +14,7 @@ use std::fmt;
 use std::io::{self, ErrorKind};
 
 /// Why a symbol file isn't written.
-#[derive(Debug, Drop)]
+#[derive(Drop)]
 pub enum SymbolsFault {
     /// The program database isn't loaded, or memory ran out.
     Load(LoadFault),
@@ -36,18 +36,27 @@ pub enum SymbolsFault {
     OutputIsRead,
 }
 
+/// Writes a fault's name with the name of a kind in parentheses.
+fn write_kind<W: fmt::Write>(
+    f: &mut fmt::Formatter<W>,
+    name: &str,
+    kind: ErrorKind,
+) -> fmt::Result {
+    write!(f, "{name}({})", kind_name(kind))
+}
+
 impl fmt::Display for SymbolsFault {
     fn fmt<W: fmt::Write>(&self, f: &mut fmt::Formatter<W>) -> fmt::Result {
         match self {
-            SymbolsFault::Load(fault) => write!(f, "{fault}"),
-            SymbolsFault::File(kind) => write!(f, "File({})", kind_name(*kind)),
-            SymbolsFault::ReadFile => write!(f, "ReadFile"),
-            SymbolsFault::ImageFile(kind) => write!(f, "ImageFile({})", kind_name(*kind)),
+            SymbolsFault::Load(fault) => fault.fmt(f),
+            SymbolsFault::File(kind) => write_kind(f, "File", *kind),
+            SymbolsFault::ReadFile => f.write_str("ReadFile"),
+            SymbolsFault::ImageFile(kind) => write_kind(f, "ImageFile", *kind),
             SymbolsFault::Image(error) => write!(f, "Image({error:?})"),
-            SymbolsFault::ImageNamesNoPdb => write!(f, "ImageNamesNoPdb"),
-            SymbolsFault::OtherBuild => write!(f, "OtherBuild"),
-            SymbolsFault::Write(kind) => write!(f, "Write({})", kind_name(*kind)),
-            SymbolsFault::OutputIsRead => write!(f, "OutputIsRead"),
+            SymbolsFault::ImageNamesNoPdb => f.write_str("ImageNamesNoPdb"),
+            SymbolsFault::OtherBuild => f.write_str("OtherBuild"),
+            SymbolsFault::Write(kind) => write_kind(f, "Write", *kind),
+            SymbolsFault::OutputIsRead => f.write_str("OutputIsRead"),
         }
     }
 }

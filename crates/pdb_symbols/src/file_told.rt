@@ -1,4 +1,4 @@
-//! What is told of the addresses of a file that is read on demand.
+//! The addresses of a file that is read on demand, with what is told of them.
 
 ghost use Rattle.std.specs.Prelude.{◌≡◌, ◌+◌, ◌-◌, ◌*◌, ◌^◌, ◌≤◌, IfErr, IfOk, IfSome, OnErr, OnOk};
 ghost use Rattle.std.specs.Prelude.{min, string_bytes};
@@ -23,7 +23,7 @@ use std::alloc::Global;
 use std::io::{ErrorKind, Write};
 use std::os::unix::fs::FileExt;
 
-/// How reading a file failed; out of memory has one name.
+/// The fault of a failed read; out of memory has one name.
 fn read_fault(kind: ErrorKind) -> ToldFault {
     match kind {
         ErrorKind::OutOfMemory => ToldFault::OutOfMemory,
@@ -31,8 +31,8 @@ fn read_fault(kind: ErrorKind) -> ToldFault {
     }
 }
 
-/// What is told of a place by what was read of a file, and of how many places from there on. What
-/// the context looked up for it is added to `lookups`.
+/// Returns what is told of a place from what was read of a file, and the number of places from
+/// there on of which it is told. The context's lookups for it are added to `lookups`.
 ///
 /// # Errors
 /// `OutOfMemory` alone, also where something has to be read first.
@@ -74,8 +74,9 @@ fn told_held<F: Drop>(
     Ok(run)
 }
 
-/// What is told of a place, and of how many places from there on. What is missing of the file is
-/// read. What was looked up the last time, when nothing was missing, is added to `lookups`.
+/// Returns what is told of a place, and the number of places from there on of which it is told.
+/// Missing parts of the file are read. The lookups of the last time, when nothing was missing, are
+/// added to `lookups`.
 ///
 /// # Errors
 /// `File` where the file couldn't be read; `OutOfMemory`.
@@ -116,17 +117,17 @@ fn told_read<F: FileExt + Drop>(
     Err(ToldFault::OutOfMemory)
 }
 
-/// Tells of the addresses of a file that is read on demand.
+/// A value that tells of the addresses of a file that is read on demand.
 #[derive(Drop)]
 pub struct FileTold<'a, F: Drop, E> {
     /// The file.
     pub symbolizer: FileSymbolizer<'a, F>,
     /// Whether inlined calls are told.
     pub inlines: bool,
-    /// How far the work is.
+    /// The progress of the work.
     pub progress: Progress<E>,
-    /// How often the context looked a place up, for what was told: where something was missing,
-    /// what was looked up before it was read isn't counted. At `u64::MAX` the count stays.
+    /// The number of the context's lookups of places, for what was told: where something was
+    /// missing, lookups before it was read aren't counted. At `u64::MAX` the count stays.
     pub lookups: u64,
 }
 
@@ -172,10 +173,10 @@ impl<'a, F: FileExt + Drop, E: Write + Drop> ToldRuns for FileTold<'a, F, E> {
     }
 }
 
-/// The text of the records of the functions of a file that is read on demand, behind a head: those
-/// of its frames at the addresses at which code may run, where the bytes that the file is taken to
-/// have agree with all that was read. The count of lookups rises by at most two for each piece of
-/// these addresses.
+/// The text of the records of the functions of a file that is read on demand, behind a head: the
+/// records of its frames at the addresses at which code may run, where the bytes that the file is
+/// taken to have agree with all that was read. The count of lookups rises by at most two for each
+/// piece of these addresses.
 ///
 /// # Errors
 /// `File` where the file couldn't be read; or out of memory.

@@ -12,7 +12,7 @@ use pdb_symbol_files::write_text;
 use std::alloc::Global;
 use std::io::Write;
 
-/// How long a text gets before it is written.
+/// The number of bytes that a text gets before it is written.
 const AT_ONCE: usize = 65_536;
 
 /// Writes a text, and empties it.
@@ -65,7 +65,7 @@ fn write_functions<W: Write>(
     write_part(&mut text, output)
 }
 
-/// Writes how the functions of an image are unwound; nothing of one that isn't x64, or whose
+/// Writes how the functions of an image are unwound; nothing of an image that isn't x64, or whose
 /// exception directory can't be read.
 ///
 /// # Errors

@@ -7,9 +7,9 @@ ghost use Rattle.pdb_symbols.specs.Roads.{HasFileRoads, KeepsFrames};
 ghost use Rattle.pdb_symbols.specs.SymbolFile.{Asked, SymbolFile};
 ghost use Rattle.pdb_symbols_modules.specs.Streams.{Streams};
 
-/// The law of names: by a text with the names of functions undecorated a consumer says of each
-/// address as many frames as by the text itself, each with the same file and line; its name is the
-/// same, or the text of a decorated one.
+/// The law of names: from a text with the names of functions undecorated a consumer says of each
+/// address as many frames as from the text itself, each with the same file and line; its name is
+/// the same, or the text of a decorated one.
 pub fn renamed_reads()
     ensures { (text named : List ℕ) → IsRenamed text named → KeepsFrames text named }
 {}

@@ -34,22 +34,25 @@ use std::process::ExitCode;
 use words::given_words;
 
 fn main(rt: HostRuntime) -> ExitCode {
-    let mut errors = rt.stderr();
-    let words = match given_words(&rt) {
-        Ok(words) => words,
+    match given_words(&rt) {
+        Ok(words) => answer_words(&rt, words.as_slice()),
         Err(error) if error.kind() == ErrorKind::OutOfMemory => {
-            return exit_with(&mut errors, "fault: OutOfMemory\n", 1);
+            report(&mut rt.stderr(), &SymbolsFault::out_of_memory())
         }
-        Err(_) => return exit_with(&mut errors, NOT_UTF8, 2),
-    };
-    let Ok(read) = read_options(rt.alloc(), words.as_slice()) else {
-        return exit_with(&mut errors, "fault: OutOfMemory\n", 1);
-    };
-    match read {
-        Words::Help => tell(&mut rt.stdout(), &mut errors, HELP),
-        Words::Version => tell(&mut rt.stdout(), &mut errors, VERSION),
-        Words::Wrong(error) => refuse(&mut errors, error.as_str()),
-        Words::Options(options) => run(&rt, &options),
+        Err(_) => exit_with(&mut rt.stderr(), NOT_UTF8, 2),
+    }
+}
+
+/// Does what the words ask for, and returns the exit status.
+fn answer_words(rt: &HostRuntime, words: &[String]) -> ExitCode {
+    let mut errors = rt.stderr();
+    match read_options(rt.alloc(), words) {
+        Ok(Words::Options(options)) => run(rt, &options),
+        Ok(Words::Wrong(error)) => refuse(&mut errors, error.as_str()),
+        Ok(Words::NoFile) => refuse(&mut errors, "the argument <FILE> is required"),
+        Ok(Words::Help) => tell(&mut rt.stdout(), &mut errors, HELP),
+        Ok(Words::Version) => tell(&mut rt.stdout(), &mut errors, VERSION),
+        Err(_) => report(&mut errors, &SymbolsFault::out_of_memory()),
     }
 }
 

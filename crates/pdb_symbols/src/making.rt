@@ -1,4 +1,4 @@
-//! Symbol files by the bytes of their databases: made, and written.
+//! Symbol files from the bytes of their databases: made, and written.
 
 ghost use Rattle.std.specs.Prelude.{◌≡◌, false, IfErr, IfOk, OnErr, OnOk, option_copied};
 ghost use Rattle.pdb_loading.specs.declared.order.ContributionOrder.TheVariants.{Any};
@@ -47,7 +47,7 @@ pub struct Made<'b> {
     pub image: Option<Image<'b>>,
     /// The identity of the database.
     pub identity: PdbIdentity,
-    /// How often a place was looked up: at most twice for each piece of the addresses.
+    /// The number of lookups of places: at most two for each piece of the addresses.
     pub lookups: u64,
 }
 
@@ -55,7 +55,7 @@ pub struct Made<'b> {
 /// given.
 ///
 /// # Errors
-/// Those of the information stream, of the image, or out of memory.
+/// The errors of the information stream, of the image, or out of memory.
 fn made_by<'b, E: Write + Drop>(
     alloc: Global,
     options: &Options,
@@ -95,11 +95,11 @@ fn made_by<'b, E: Write + Drop>(
     })
 }
 
-/// Makes the symbol file of a database by the bytes of its file, and of those of its image, if they
-/// are given.
+/// Makes the symbol file of a database from the bytes of its file and, if they are given, the bytes
+/// of its image.
 ///
 /// # Errors
-/// The first fault of loading; that of the information stream; those of the image; out of memory.
+/// The first fault of loading; the information stream's; the image's; out of memory.
 fn made_in_memory<'b, E: Write + Drop>(
     alloc: Global,
     options: &Options,
@@ -138,13 +138,12 @@ pub fn write_made<S: AllocGlobal, W: Destination<S>>(
     write_symbols_text(rt.alloc(), text, options.demangle, image, output)
 }
 
-/// Writes the symbol file of a database by the bytes of its file, and of those of its image, if
-/// they are given. A consumer that reads all that was written says of each address the frames that
-/// the report on lines has there, where code may run; of any other address nothing.
+/// Writes the symbol file of a database from the bytes of its file and, if they are given, the
+/// bytes of its image. A consumer that reads all that was written says of each address the frames
+/// that the report on lines has there, where code may run; of any other address nothing.
 ///
 /// # Errors
-/// The first fault of loading; that of the information stream; those of the image; `Write`; out of
-/// memory.
+/// The first fault of loading; the information stream's; the image's; `Write`; out of memory.
 pub fn write_in_memory<S: AllocGlobal, W: Destination<S>, E: Write + Drop>(
     rt: &S,
     options: &Options,

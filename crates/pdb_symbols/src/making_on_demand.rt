@@ -22,16 +22,17 @@ use std::alloc::Global;
 use std::io::Write;
 use std::os::unix::fs::FileExt;
 
-/// What came of a symbol file, and the database's file, with what was read of it.
+/// The outcome of a symbol file, and the database's file, with what was read of it.
 #[derive(Drop)]
 pub struct OnDemand<'a, F: Drop, T: Drop> {
-    /// What came of it.
+    /// The outcome of the symbol file.
     pub outcome: Result<T, SymbolsFault>,
     /// The file.
     pub source: FileOnDemand<'a, F>,
 }
 
-/// Whose the symbol file of a database is that is read on demand, and its identity.
+/// The description of the symbol file of a database that is read on demand, and the database's
+/// identity.
 fn described_on_demand<'b, F: FileExt + Drop>(
     alloc: Global,
     options: &Options,
@@ -56,7 +57,7 @@ fn described_on_demand<'b, F: FileExt + Drop>(
     Ok((described, identity))
 }
 
-/// What came of a symbol file, and the file of a database that is asked nothing more.
+/// The outcome of a symbol file, and the file of a database that is asked nothing more.
 fn close<'a, F: Drop, T: Drop>(
     symbolizer: FileSymbolizer<'a, F>,
     outcome: Result<T, SymbolsFault>,
@@ -157,9 +158,10 @@ fn made_on_demand<'a, 'b, F: FileExt + Drop, E: Write + Drop>(
 }
 
 /// Writes the symbol file of a database that is read on demand, and of the bytes of its image, if
-/// they are given. That is the file of the bytes that the database's file is taken to have, where
-/// these agree with all that was read. A consumer that reads all that was written says of each
-/// address the frames that the report on lines has there, where code may run; of any other nothing.
+/// they are given. It is the symbol file of the bytes that the database's file is taken to have,
+/// where these agree with all that was read. A consumer that reads all that was written says of
+/// each address the frames that the report on lines has there, where code may run; of any other
+/// address nothing.
 pub fn write_on_demand<'a, S: AllocGlobal, F: FileExt + Drop, W: Destination<S>, E: Write + Drop>(
     rt: &S,
     options: &Options,

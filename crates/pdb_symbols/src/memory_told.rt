@@ -1,4 +1,4 @@
-//! What is told of the addresses of a file that is in memory.
+//! The addresses of a file that is in memory, with what is told of them.
 
 ghost use Rattle.std.specs.Prelude.{◌≡◌, ◌+◌, ◌*◌, ◌<◌, ◌≤◌, IfErr, IfOk, IfSome, OnOk};
 ghost use Rattle.std.specs.Prelude.{string_bytes};
@@ -23,8 +23,8 @@ use pdb_symbol_files::{ToldFault, ToldRun, ToldRuns};
 use std::alloc::Global;
 use std::io::Write;
 
-/// What is told of an address by a context over a file that is in memory, and over how many
-/// addresses from there on, before `end`.
+/// Returns what is told of an address from a context over a file that is in memory, and the number
+/// of addresses from there on, before `end`, of which it is told.
 ///
 /// # Errors
 /// `OutOfMemory` alone.
@@ -62,16 +62,16 @@ fn told_in_memory(
     }
 }
 
-/// Tells of the addresses of a file that is in memory, by a context over it.
+/// A value that tells of the addresses of a file that is in memory, from a context over it.
 #[derive(Drop)]
 pub struct MemoryTold<'a, E> {
     /// The file.
     pub symbolizer: &'a Symbolizer,
-    /// A context over it.
+    /// A context over the file.
     pub context: FileContext<'a>,
     /// Whether inlined calls are told.
     pub inlines: bool,
-    /// How far the work is.
+    /// The progress of the work.
     pub progress: Progress<E>,
     ghost answers: { AnswersWith symbolizer.now.order answered_in (streams symbolizer.now.bytes)
         context },
@@ -106,9 +106,9 @@ impl<'a, E: Write + Drop> ToldRuns for MemoryTold<'a, E> {
     }
 }
 
-/// The text of the records of the functions of a file that is in memory, behind a head: those of
-/// its frames at the addresses at which code may run. The context's count of lookups rises by at
-/// most two for each piece of these.
+/// The text of the records of the functions of a file that is in memory, behind a head: the records
+/// of its frames at the addresses at which code may run. The context's count of lookups rises by at
+/// most two for each piece of these addresses.
 ///
 /// # Errors
 /// Out of memory.

@@ -1,8 +1,8 @@
-//! What the program's words ask for.
+//! The request that the program's words make.
 
 use std::alloc::{AllocError, Global};
 
-/// Where a symbol file is written.
+/// The place where a symbol file is written.
 #[derive(Drop)]
 pub enum Target {
     /// To standard output.
@@ -13,7 +13,7 @@ pub enum Target {
     Store(String),
 }
 
-/// What is asked for.
+/// The symbol file that is asked for.
 #[derive(Drop)]
 pub struct Options {
     /// The program database.
@@ -28,32 +28,40 @@ pub struct Options {
     pub target: Target,
 }
 
-/// What the words say.
+/// The request that words make.
 #[derive(Drop)]
 pub enum Words {
     /// The help is asked for.
     Help,
     /// The version is asked for.
     Version,
-    /// Something is wrong with them: what.
+    /// The words are wrong, with this error.
     Wrong(String),
+    /// No database is named.
+    NoFile,
     /// A symbol file is asked for.
     Options(Options),
 }
 
-/// What was read of the words.
+/// The choices that were read of the words.
 #[derive(Drop)]
 struct Choices {
-    files: Vec<String>,
+    file: Option<String>,
+    image: Option<String>,
     inlines: bool,
     demangle: bool,
     target: Target,
-    ended: Option<Words>,
+    /// Whether the help is asked for.
+    help: bool,
+    /// Whether the version is asked for.
+    version: bool,
+    /// The error of the words, if there is one.
+    error: Option<String>,
     /// Whether a word after `--` was read.
     plain: bool,
 }
 
-/// What a word is.
+/// A kind of word.
 #[derive(Clone, Copy, PartialEq, Eq)]
 enum Word {
     File,
@@ -67,7 +75,7 @@ enum Word {
     Unknown,
 }
 
-/// What a word is by how it begins.
+/// The kind of a word, by how it begins.
 fn word_of(word: &str) -> Word {
     match word {
         "--no-inlines" => Word::NoInlines,
@@ -91,10 +99,14 @@ fn with_value(word: &str) -> (&str, Option<&str>) {
 }
 
 impl Choices {
+    /// Whether the words after those that were read count for nothing.
+    fn has_ended(&self) -> bool {
+        self.help || self.version || self.error.is_some()
+    }
+
     /// Ends the words with an error.
     fn refuse(&mut self, alloc: Global, what: &str, word: &str) -> Result<(), AllocError> {
-        let error = format!(in alloc; "{what} '{word}'")?;
-        self.ended = Some(Words::Wrong(error));
+        self.error = Some(format!(in alloc; "{what} '{word}'")?);
         Ok(())
     }
 
@@ -108,7 +120,7 @@ impl Choices {
         self.refuse(alloc, "a value is required for", name)
     }
 
-    /// Takes the value of an option as the place to write to; an empty one is none.
+    /// Takes the value of an option as the place to write to; an empty value is none.
     fn read_target(&mut self, alloc: Global, kind: Word, value: &str) -> Result<(), AllocError> {
         if value.is_empty() {
             return self.refuse_without_value(alloc, kind);
@@ -122,17 +134,30 @@ impl Choices {
         Ok(())
     }
 
+    /// Takes a word as the database or, after that, as the image.
+    fn read_file(&mut self, alloc: Global, word: &str) -> Result<(), AllocError> {
+        if self.image.is_some() {
+            return self.refuse(alloc, "unexpected argument", word);
+        }
+        let path = Some(String::from_str(alloc, word)?);
+        if self.file.is_none() {
+            self.file = path;
+        } else {
+            self.image = path;
+        }
+        Ok(())
+    }
+
     /// Reads a word that wants no value.
     fn read_flag(&mut self, alloc: Global, kind: Word, word: &str) -> Result<(), AllocError> {
         match kind {
             Word::NoInlines => self.inlines = false,
             Word::NoDemangle => self.demangle = false,
             Word::Plain => self.plain = true,
-            Word::Help => self.ended = Some(Words::Help),
-            Word::Version => self.ended = Some(Words::Version),
-            Word::Unknown => self.refuse(alloc, "unexpected argument", word)?,
-            _ if self.files.len() < 2 => self.files.push(String::from_str(alloc, word)?)?,
-            _ => self.refuse(alloc, "unexpected argument", word)?,
+            Word::Help => self.help = true,
+            Word::Version => self.version = true,
+            Word::Unknown => return self.refuse(alloc, "unexpected argument", word),
+            _ => return self.read_file(alloc, word),
         }
         Ok(())
     }
@@ -140,28 +165,24 @@ impl Choices {
     /// Reads a word. Returns whether it is an option that wants the next word as its value.
     fn read_word(&mut self, alloc: Global, word: &str) -> Result<Option<Word>, AllocError> {
         if self.plain {
-            self.read_flag(alloc, Word::File, word)?;
+            self.read_file(alloc, word)?;
             return Ok(None);
         }
         let (name, value) = with_value(word);
-        match (word_of(name), value) {
-            (kind @ (Word::Output | Word::Store), Some(value)) => {
-                self.read_target(alloc, kind, value)?;
-                Ok(None)
-            }
-            (kind @ (Word::Output | Word::Store), None) => Ok(Some(kind)),
-            (kind, _) => {
-                self.read_flag(alloc, kind, word)?;
-                Ok(None)
-            }
+        let kind = word_of(name);
+        match (kind, value) {
+            (Word::Output | Word::Store, Some(value)) => self.read_target(alloc, kind, value)?,
+            (Word::Output | Word::Store, None) => return Ok(Some(kind)),
+            _ => self.read_flag(alloc, kind, word)?,
         }
+        Ok(None)
     }
 
     /// Reads all words.
     fn read_all(&mut self, alloc: Global, words: &[String]) -> Result<(), AllocError> {
         let mut wanting: Option<Word> = None;
         for word in words {
-            if self.ended.is_some() {
+            if self.has_ended() {
                 return Ok(());
             }
             wanting = match wanting {
@@ -172,50 +193,57 @@ impl Choices {
                 None => self.read_word(alloc, word.as_str())?,
             };
         }
-        match (wanting, &self.ended) {
-            (Some(kind), None) => self.refuse_without_value(alloc, kind),
+        match wanting {
+            Some(kind) if !self.has_ended() => self.refuse_without_value(alloc, kind),
             _ => Ok(()),
         }
     }
-}
 
-/// What the words ask for.
-///
-/// # Errors
-/// `AllocError` when memory runs out.
-pub fn read_options(alloc: Global, words: &[String]) -> Result<Words, AllocError> {
-    let mut choices = Choices {
-        files: Vec::new(alloc),
-        inlines: true,
-        demangle: true,
-        target: Target::Output,
-        ended: None,
-        plain: false,
-    };
-    choices.read_all(alloc, words)?;
-    let Choices {
-        mut files,
-        inlines,
-        demangle,
-        target,
-        ended,
-        plain: _,
-    } = choices;
-    if let Some(ended) = ended {
-        return Ok(ended);
-    }
-    let image = if files.len() < 2 { None } else { files.pop() };
-    match files.pop() {
-        Some(file) => Ok(Words::Options(Options {
+    /// The request that the words make.
+    fn asked(self) -> Words {
+        let Choices {
             file,
             image,
             inlines,
             demangle,
             target,
-        })),
-        None => {
-            let error = String::from_str(alloc, "the argument <FILE> is required")?;
-            Ok(Words::Wrong(error))
+            help,
+            version,
+            error,
+            plain: _,
+        } = self;
+        match (error, file) {
+            (Some(error), _) => Words::Wrong(error),
+            (None, _) if help => Words::Help,
+            (None, _) if version => Words::Version,
+            (None, None) => Words::NoFile,
+            (None, Some(file)) => Words::Options(Options {
+                file,
+                image,
+                inlines,
+                demangle,
+                target,
+            }),
         }
     }
+}
+
+/// The request that the words make.
+///
+/// # Errors
+/// `AllocError` when memory runs out.
+pub fn read_options(alloc: Global, words: &[String]) -> Result<Words, AllocError> {
+    let mut choices = Choices {
+        file: None,
+        image: None,
+        inlines: true,
+        demangle: true,
+        target: Target::Output,
+        help: false,
+        version: false,
+        error: None,
+        plain: false,
+    };
+    choices.read_all(alloc, words)?;
+    Ok(choices.asked())
 }

@@ -12,10 +12,10 @@ use std::io::{self, ErrorKind};
 use std::os::unix::fs::MetadataExt;
 use std::rt::Files;
 
-/// How many names beside a path are tried.
+/// The number of names beside a path that are tried.
 const NAMES: u32 = 1000;
 
-/// Where a write failed.
+/// The outcome of a write, with a failure as a fault.
 pub fn write_fault<T>(outcome: io::Result<T>) -> Result<T, SymbolsFault>
     ensures { IfErr result FailsToWrite }
 {
@@ -39,11 +39,11 @@ struct Renaming {
 pub struct OutputFile<F: Drop> {
     /// The file.
     pub file: F,
-    /// How it is renamed, where it is written beside its path.
+    /// The names of the file, where it is written beside its path.
     renaming: Option<Renaming>,
 }
 
-/// Whether what stands at a path is written into: a link, a device, a FIFO. A regular file is
+/// Whether the file at a path is written into: a link, a device, a FIFO. A regular file is
 /// replaced.
 fn is_written_into(rt: &impl Files, path: &str) -> Result<bool, SymbolsFault>
     ensures { IfErr result FailsToWrite }
@@ -107,10 +107,10 @@ pub fn open_output<S: Files + AllocGlobal>(
 }
 
 impl<F: Drop> OutputFile<F> {
-    /// Ends what was written: a file beside its path is renamed if it is whole, and else removed.
+    /// Ends the writing: a file beside its path is renamed if it is whole, and otherwise removed.
     ///
     /// # Errors
-    /// As the write's; `Write` where the file can't be renamed.
+    /// The write's error; `Write` where the file can't be renamed.
     pub fn end(
         self,
         rt: &impl Files,
@@ -172,8 +172,8 @@ pub fn is_read(rt: &impl Files, options: &Options, path: &str) -> Result<bool, S
     }
 }
 
-/// Whether the file of `--output` is the database or the image. Where a store's file lies is known
-/// only by the identity of the database.
+/// Whether the file of `--output` is the database or the image. The path of a store's file is known
+/// only from the identity of the database.
 ///
 /// # Errors
 /// Out of memory.

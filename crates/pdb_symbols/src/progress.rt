@@ -1,24 +1,24 @@
-//! How far the work is.
+//! The progress of the work.
 
 use std::io::Write;
 
-/// What erases what is shown.
+/// The bytes that erase the shown progress.
 pub const ERASED: &[u8] = b"\r    \r";
 
-/// How far the work is, in hundredths of it, on a terminal.
+/// The progress of the work, in hundredths of it, on a terminal.
 #[derive(Drop)]
 pub struct Progress<E> {
     errors: E,
     shows: bool,
     /// The hundredths that are shown.
     shown: Option<u64>,
-    /// How much was done, of how much.
+    /// The amount of work that was done, and of all work.
     done: u64,
     all: u64,
 }
 
 impl<E: Write> Progress<E> {
-    /// Shows how far the work is on `errors`, or nothing.
+    /// Shows the progress of the work on `errors`, or nothing.
     pub fn new(errors: E, shows: bool) -> Progress<E> {
         Progress {
             errors,
@@ -29,12 +29,13 @@ impl<E: Write> Progress<E> {
         }
     }
 
-    /// Says how much there is to be done.
+    /// Sets the amount that is to be done.
     pub fn begin(&mut self, all: u64) {
         self.all = all;
     }
 
-    /// Says that so much more was done, and shows it until all is; a write that fails is ignored.
+    /// Adds an amount that was done, and shows the progress until all is done; a write that fails
+    /// is ignored.
     pub fn advance(&mut self, count: u32) {
         self.done = self.done.saturating_add(u64::from(count));
         if !self.shows || self.all == 0 {

@@ -13,7 +13,7 @@ use pdb_symbol_files::write_bytes;
 use std::alloc::Global;
 use std::io::Write;
 
-/// How long a text gets before it is written.
+/// The number of bytes that a text gets before it is written.
 const AT_ONCE: usize = 65_536;
 
 /// Writes bytes, and empties them.

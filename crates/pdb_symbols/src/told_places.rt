@@ -1,4 +1,4 @@
-//! What a symbol file tells of the places of a database's sections.
+//! The answers for places of a database's sections, as a symbol file tells them.
 
 ghost use Rattle.std.specs.Prelude.{◌≡◌, ◌+◌, ◌-◌, ◌^◌, ◌≤◌, IfOk, IfSome, OnOk, min};
 ghost use Rattle.std.specs.Prelude.{option_and_then};
@@ -26,8 +26,8 @@ fn shown<'f, 'a>(inlines: bool, frames: &'f [Frame<'a>]) -> &'f [Frame<'a>]
     &frames[frames.len().saturating_sub(1)..]
 }
 
-/// What is told of frames that were found, in a function that begins at an address, if that is
-/// known.
+/// Returns what is told of frames that were found, in a function that begins at an address, if it
+/// is known.
 fn tell(
     alloc: Global,
     inlines: bool,
@@ -43,7 +43,7 @@ fn tell(
     }
 }
 
-/// Where the function begins that a key stands for, if there is one.
+/// The start of the function that a key stands for, if there is one.
 fn start_of(
     alloc: Global,
     context: &mut FileContext<'_>,
@@ -60,10 +60,10 @@ fn start_of(
     Ok(function.map(|function| function.start_rva))
 }
 
-/// What is told of a place, with inlined calls or without, and of how many places from there on,
-/// `limit` at most. Nothing is told where frames can't be read. No name or file has a control
-/// character. The function and the frames are looked up once each, and the run ends at `limit` or
-/// at the next bound.
+/// Returns what is told of a place, with inlined calls or without, and the number of places from
+/// there on of which it is told, `limit` at most. Nothing is told where frames can't be read. No
+/// name or file has a control character. The function and the frames are looked up once each, and
+/// the run ends at `limit` or at the next bound.
 ///
 /// # Errors
 /// `OutOfMemory` alone, also where something has to be read first.

@@ -16,7 +16,7 @@ use msvc_demangler::{Demangled, SHORT_TEXT, demangle};
 use pdb_symbol_files::told_text;
 use std::alloc::{AllocError, Global};
 
-/// How many bytes stand before the first blank.
+/// The number of bytes before the first blank.
 fn word_length(text: &[u8]) -> usize
     ensures is { result ≡ prefix_len is_in_word text.now }
     ensures within { result ≤ length text.now }
@@ -24,7 +24,7 @@ fn word_length(text: &[u8]) -> usize
     text.iter().take_while(|byte| **byte != b' ').count()
 }
 
-/// What stands before the first blank.
+/// The bytes before the first blank.
 #[tactic(auto, using(crate::proofs::NamedSteps::before_it))]
 fn before_blank(line: &[u8]) -> &[u8]
     ensures { result.now ≡ before_blank_of line.now }
@@ -32,7 +32,7 @@ fn before_blank(line: &[u8]) -> &[u8]
     &line[..word_length(line)]
 }
 
-/// What stands after the first blank.
+/// The bytes after the first blank.
 #[tactic(auto, using(crate::proofs::NamedSteps::after_it, crate::proofs::NamedSteps::after_none))]
 fn after_blank(line: &[u8]) -> &[u8]
     ensures { result.now ≡ after_blank_of line.now }
@@ -45,7 +45,7 @@ fn after_blank(line: &[u8]) -> &[u8]
     }
 }
 
-/// What stands after so many fields.
+/// The bytes after so many fields.
 #[tactic(auto, using(crate::proofs::NamedSteps::fields_more, crate::proofs::NamedSteps::fields_end))]
 fn after_fields(count: usize, line: &[u8]) -> &[u8]
     ensures { result.now ≡ after_fields_of count line.now }
@@ -72,7 +72,7 @@ fn name_of(line: &[u8]) -> &[u8]
     &[]
 }
 
-/// Whether a name is decorated, by how it begins: `??` stands for what isn't known.
+/// Whether a name is decorated, judged by its first bytes: `??` stands for a name that isn't known.
 fn is_decorated(name: &[u8]) -> bool
     ensures { result ≡ is_decorated_name name.now }
 {
@@ -119,7 +119,7 @@ pub fn append_line(alloc: Global, line: &[u8], output: &mut Vec<u8>) -> Result<(
     Ok(())
 }
 
-/// How many bytes stand before the first newline.
+/// The number of bytes before the first newline.
 fn line_length(text: &[u8]) -> usize
     ensures is { result ≡ prefix_len is_in_line text.now }
     ensures within { result ≤ length text.now }
@@ -127,7 +127,7 @@ fn line_length(text: &[u8]) -> usize
     text.iter().take_while(|byte| **byte != b'\n').count()
 }
 
-/// The first line of a text, if a newline ends it, and what comes after that.
+/// The first line of a text, if a newline ends it, and the text after the newline.
 #[tactic(auto, using(crate::proofs::NamedSteps::line_whole))]
 pub fn split_line(text: &[u8]) -> Option<(&[u8], &[u8])>
     ensures { MatchOption result (IsUnbroken text.now)

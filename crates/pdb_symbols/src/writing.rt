@@ -24,11 +24,11 @@ use std::io::Write;
 pub struct FileText {
     /// The records before the first FUNC record.
     pub head: String,
-    /// The FUNC records, with what is below them.
+    /// The FUNC records, with the records below them.
     pub functions: String,
 }
 
-/// The text of the records of a database's functions, by what is told of the addresses at which
+/// The text of the records of a database's functions, from what is told of the addresses at which
 /// code may run, behind a head.
 ///
 /// # Errors
