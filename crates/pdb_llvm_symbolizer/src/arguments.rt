@@ -5,23 +5,15 @@ use crate::given_words::is_addr2line;
 use pdb_llvm_protocol::{
     Asked, LineForm, ReportOptions, Style, TextOptions, are_hexadecimal, parse_number,
 };
-use std::alloc::{AllocError, Global};
+use std::fmt;
 
-/// What the arguments ask for.
-#[derive(Drop)]
-pub struct Arguments {
+/// The requests of the arguments: the choices, and what they come to.
+#[derive(Clone, Copy)]
+pub struct Arguments<'c> {
     /// The program's name, as it was called.
-    pub program: String,
-    /// The image or database of all addresses, if it is given.
-    pub object: Option<String>,
-    /// The database of the image, if it is given.
-    pub database: Option<String>,
-    /// The build ID of the object of all addresses, if it is given.
-    pub build_id: Option<String>,
-    /// The folders in which databases and images lie by their identities.
-    pub stores: Vec<String>,
-    /// Whether addresses are relative to the image.
-    pub relative: bool,
+    pub program: &'c str,
+    /// The choices.
+    pub choices: &'c Choices<'c>,
     /// What is subtracted from each address.
     pub adjust: u64,
     /// How lines are read.
@@ -34,68 +26,85 @@ pub struct Arguments {
     pub texts: TextOptions,
     /// Which frames are reported.
     pub frames: ReportOptions,
-    /// The addresses, as lines of input have them; if there are none, standard input has them.
-    pub addresses: Vec<String>,
 }
 
-/// The number of an option, or what is wrong with it.
-fn number_of(
-    alloc: Global,
-    name: &str,
-    value: &Option<String>,
-) -> Result<Result<u64, String>, AllocError> {
-    let Some(value) = value else {
-        return Ok(Ok(0));
-    };
-    match parse_number(value.as_str().as_bytes()) {
-        Some(number) => Ok(Ok(number)),
-        None => {
-            let text = "expected a non-negative integer, but got";
-            let error = format!(in alloc; "{name}=: {text} '{value}'")?;
-            Ok(Err(error))
+/// The cause for which choices that can be read aren't taken. It prints as it is reported.
+#[derive(Clone, Copy)]
+pub enum Refusal<'c> {
+    /// The value of the option of this name is no number.
+    Number(&'static str, &'c str),
+    /// Markup would have to be read.
+    Markup,
+    /// An object is named by its build ID and by its path.
+    TwoObjects,
+    /// This is no build ID.
+    BuildId(&'c str),
+}
+
+impl<'c> fmt::Display for Refusal<'c> {
+    fn fmt<W: fmt::Write>(&self, f: &mut fmt::Formatter<W>) -> fmt::Result {
+        match self {
+            Refusal::Number(name, value) => {
+                write!(
+                    f,
+                    "{name}=: expected a non-negative integer, but got '{value}'"
+                )
+            }
+            Refusal::Markup => f.write_str("error: --filter-markup isn't supported"),
+            Refusal::TwoObjects => f.write_str("error: cannot specify both --build-id and --obj"),
+            Refusal::BuildId(hash) => {
+                write!(f, "--build-id=: expected a build ID, but got '{hash}'")
+            }
         }
     }
 }
 
-/// What is subtracted from each address, and that the other numbers are numbers; or what is wrong
-/// with one of them.
-fn adjust_in(alloc: Global, choices: &Choices) -> Result<Result<u64, String>, AllocError> {
-    let lines = number_of(
-        alloc,
-        "--print-source-context-lines",
-        &choices.context_lines,
-    )?;
-    let size = number_of(alloc, "--cache-size", &choices.cache_size)?;
+/// The number of an option; 0 where it isn't given.
+fn number_of<'c>(name: &'static str, value: Option<&'c str>) -> Result<u64, Refusal<'c>> {
+    let Some(value) = value else {
+        return Ok(0);
+    };
+    match parse_number(value.as_bytes()) {
+        Some(number) => Ok(number),
+        None => Err(Refusal::Number(name, value)),
+    }
+}
+
+/// Checks the choices that aren't numbers.
+fn check_choices<'c>(choices: &Choices<'c>) -> Result<(), Refusal<'c>> {
+    match choices.build_id {
+        _ if choices.markup => Err(Refusal::Markup),
+        Some(_) if choices.object.is_some() => Err(Refusal::TwoObjects),
+        Some(hash) if hash.is_empty() || !are_hexadecimal(hash.as_bytes()) => {
+            Err(Refusal::BuildId(hash))
+        }
+        _ => Ok(()),
+    }
+}
+
+/// The number that is subtracted from each address, where all choices are taken.
+fn adjust_in<'c>(choices: &Choices<'c>) -> Result<u64, Refusal<'c>> {
+    let lines = number_of("--print-source-context-lines", choices.context_lines);
+    let size = number_of("--cache-size", choices.cache_size);
     match (
-        number_of(alloc, "--adjust-vma", &choices.adjust)?,
+        number_of("--adjust-vma", choices.adjust),
         lines,
         size,
+        check_choices(choices),
     ) {
-        (Err(error), _, _) | (Ok(_), Err(error), _) | (Ok(_), Ok(_), Err(error)) => Ok(Err(error)),
-        (Ok(adjust), Ok(_), Ok(_)) => Ok(Ok(adjust)),
+        (Ok(adjust), Ok(_), Ok(_), Ok(())) => Ok(adjust),
+        (Err(refusal), _, _, _)
+        | (Ok(_), Err(refusal), _, _)
+        | (Ok(_), Ok(_), Err(refusal), _)
+        | (Ok(_), Ok(_), Ok(_), Err(refusal)) => Err(refusal),
     }
-}
-
-/// Why choices that can be read aren't taken, if they aren't.
-fn refused(alloc: Global, choices: &Choices) -> Result<Option<String>, AllocError> {
-    let error = match &choices.build_id {
-        _ if choices.markup => String::from_str(alloc, "error: --filter-markup isn't supported")?,
-        Some(_) if choices.object.is_some() => {
-            String::from_str(alloc, "error: cannot specify both --build-id and --obj")?
-        }
-        Some(hash) if hash.is_empty() || !are_hexadecimal(hash.as_str().as_bytes()) => {
-            format!(in alloc; "--build-id=: expected a build ID, but got '{hash}'")?
-        }
-        _ => return Ok(None),
-    };
-    Ok(Some(error))
 }
 
 /// How answers are written.
-fn texts_of(choices: &Choices, function: FunctionName, style: Style) -> TextOptions {
+fn texts_of(choices: &Choices<'_>, function: FunctionName, style: Style) -> TextOptions {
     TextOptions {
         style,
-        functions: function != FunctionName::None,
+        functions: !matches!(function, FunctionName::None),
         addresses: choices.addresses,
         pretty: choices.pretty,
         verbose: choices.verbose,
@@ -105,13 +114,11 @@ fn texts_of(choices: &Choices, function: FunctionName, style: Style) -> TextOpti
 
 /// Which frames are reported: without inlined calls the function's own, in the style of GNU the
 /// innermost one.
-fn report_options(choices: &Choices, inlines: bool, style: Style) -> ReportOptions {
-    let asked = if inlines {
-        Asked::All
-    } else if style == Style::Gnu {
-        Asked::Innermost
-    } else {
-        Asked::Outermost
+fn report_options(choices: &Choices<'_>, inlines: bool, style: Style) -> ReportOptions {
+    let asked = match (inlines, style) {
+        (true, _) => Asked::All,
+        (false, Style::Gnu) => Asked::Innermost,
+        (false, Style::Llvm | Style::Json) => Asked::Outermost,
     };
     ReportOptions {
         asked,
@@ -119,49 +126,31 @@ fn report_options(choices: &Choices, inlines: bool, style: Style) -> ReportOptio
     }
 }
 
-/// The style and the names of functions where none are chosen, of `llvm-addr2line` or not.
-fn defaults(is_addr2line: bool) -> (Style, FunctionName) {
-    if is_addr2line {
+/// The requests that a program of this name is given by choices.
+///
+/// # Errors
+/// The cause for which the choices aren't taken.
+pub fn read_arguments<'c>(
+    program: &'c str,
+    choices: &'c Choices<'c>,
+) -> Result<Arguments<'c>, Refusal<'c>> {
+    let is_plain = is_addr2line(program);
+    let adjust = adjust_in(choices)?;
+    // `llvm-addr2line` has defaults of its own.
+    let (style, function) = if is_plain {
         (Style::Gnu, FunctionName::None)
     } else {
         (Style::Llvm, FunctionName::Linkage)
-    }
-}
-
-/// The names of functions, where those in `default` are reported if none are chosen.
-fn function_of(choices: &Choices, default: FunctionName) -> FunctionName {
-    if choices.functions {
+    };
+    let style = choices.style.unwrap_or(style);
+    let function = if choices.functions {
         FunctionName::Linkage
     } else {
-        choices.function.unwrap_or(default)
-    }
-}
-
-/// What a program of this name is asked for by choices; or what is wrong with them.
-///
-/// # Errors
-/// Where memory ran out.
-pub fn read_arguments(
-    alloc: Global,
-    program: String,
-    choices: Choices,
-) -> Result<Result<Arguments, String>, AllocError> {
-    let is_plain = is_addr2line(program.as_str());
-    let adjust = match adjust_in(alloc, &choices)? {
-        Ok(adjust) => adjust,
-        Err(error) => return Ok(Err(error)),
+        choices.function.unwrap_or(function)
     };
-    if let Some(error) = refused(alloc, &choices)? {
-        return Ok(Err(error));
-    }
-    let (style, function) = defaults(is_plain);
-    let style = choices.style.unwrap_or(style);
-    let function = function_of(&choices, function);
-    let texts = texts_of(&choices, function, style);
-    let frames = report_options(&choices, choices.inlines.unwrap_or(!is_plain), style);
-    Ok(Ok(Arguments {
+    Ok(Arguments {
         program,
-        relative: choices.relative,
+        choices,
         adjust,
         form: LineForm {
             file_given: choices.object.is_some() || choices.build_id.is_some(),
@@ -169,12 +158,7 @@ pub fn read_arguments(
         },
         function,
         demangle: choices.demangle.unwrap_or(!is_plain),
-        texts,
-        frames,
-        object: choices.object,
-        database: choices.database,
-        build_id: choices.build_id,
-        stores: choices.stores,
-        addresses: choices.inputs,
-    }))
+        texts: texts_of(choices, function, style),
+        frames: report_options(choices, choices.inlines.unwrap_or(!is_plain), style),
+    })
 }

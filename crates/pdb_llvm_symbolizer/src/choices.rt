@@ -1,10 +1,13 @@
 //! What the words of the arguments choose: of options that exclude each other the last one counts.
 
+use crate::given_words::GivenWords;
+use crate::stores::push_search_path;
 use pdb_llvm_protocol::{Flag, OptionWord, Setting, Style, read_option};
 use std::alloc::{AllocError, Global};
+use std::fmt;
 
 /// The name that a function is reported by.
-#[derive(Clone, Copy, PartialEq, Eq)]
+#[derive(Clone, Copy)]
 pub enum FunctionName {
     /// None.
     None,
@@ -14,9 +17,30 @@ pub enum FunctionName {
     Linkage,
 }
 
-/// What the words choose. Where nothing is chosen, it is `None`, false or empty.
+/// A fault of a word, which prints as it is reported.
+#[derive(Clone, Copy)]
+pub enum WordFault<'w> {
+    /// No option has this name, which stands after a dash.
+    Name(&'w str),
+    /// No option has this letter.
+    Letter(char),
+    /// The option that this word ends with lacks its value.
+    NoValue(&'w str),
+}
+
+impl<'w> fmt::Display for WordFault<'w> {
+    fn fmt<W: fmt::Write>(&self, f: &mut fmt::Formatter<W>) -> fmt::Result {
+        match self {
+            WordFault::Name(name) => write!(f, "unknown argument '-{name}'"),
+            WordFault::Letter(letter) => write!(f, "unknown argument '-{letter}'"),
+            WordFault::NoValue(word) => write!(f, "{word}: missing argument"),
+        }
+    }
+}
+
+/// The choices of the words. Where nothing is chosen, a choice is `None`, false or empty.
 #[derive(Drop)]
-pub struct Choices {
+pub struct Choices<'w> {
     /// Whether the help is asked for.
     pub help: bool,
     /// Whether the version is asked for.
@@ -45,25 +69,27 @@ pub struct Choices {
     /// How answers are written.
     pub style: Option<Style>,
     /// The image or database of all addresses.
-    pub object: Option<String>,
+    pub object: Option<&'w str>,
     /// The database of the image.
-    pub database: Option<String>,
+    pub database: Option<&'w str>,
     /// The build ID of the object of all addresses.
-    pub build_id: Option<String>,
+    pub build_id: Option<&'w str>,
     /// What is subtracted from each address.
-    pub adjust: Option<String>,
+    pub adjust: Option<&'w str>,
     /// How many lines of source are written.
-    pub context_lines: Option<String>,
+    pub context_lines: Option<&'w str>,
     /// How much may be cached.
-    pub cache_size: Option<String>,
+    pub cache_size: Option<&'w str>,
     /// The folders of symbol stores.
-    pub stores: Vec<String>,
+    pub stores: Vec<&'w str>,
     /// Folders that are looked at for Apple's systems.
-    pub dsym_hints: Vec<String>,
+    pub dsym_hints: Vec<&'w str>,
     /// The addresses, as lines of input have them.
-    pub inputs: Vec<String>,
-    /// What is wrong with the words.
-    pub errors: Vec<String>,
+    pub inputs: Vec<&'w str>,
+    /// The faults of the words.
+    pub errors: Vec<WordFault<'w>>,
+    /// The option that wants the next word, with the word that it stands in.
+    wanting: Option<(Setting, &'w str)>,
 }
 
 /// The style that a word names; that of LLVM, if it names another.
@@ -84,9 +110,15 @@ fn function_of(word: &str) -> FunctionName {
     }
 }
 
-impl Choices {
-    /// Nothing is chosen.
-    fn new(alloc: Global) -> Choices {
+/// Appends an item to a list.
+fn push<T: Drop>(list: &mut Vec<T>, item: T) -> Result<(), AllocError> {
+    list.push(item)?;
+    Ok(())
+}
+
+impl<'w> Choices<'w> {
+    /// No choices.
+    pub fn new(alloc: Global) -> Choices<'w> {
         Choices {
             help: false,
             version: false,
@@ -111,6 +143,7 @@ impl Choices {
             dsym_hints: Vec::new(alloc),
             inputs: Vec::new(alloc),
             errors: Vec::new(alloc),
+            wanting: None,
         }
     }
 
@@ -136,121 +169,99 @@ impl Choices {
     }
 
     /// Chooses the value of an option.
-    fn set(&mut self, alloc: Global, setting: Setting, value: &str) -> Result<(), AllocError> {
-        let value = String::from_str(alloc, value)?;
+    fn set(&mut self, setting: Setting, value: &'w str) -> Result<(), AllocError> {
         match setting {
+            Setting::SymbolStore => return push(&mut self.stores, value),
+            Setting::DsymHint => return push(&mut self.dsym_hints, value),
             Setting::Object => self.object = Some(value),
             Setting::Database => self.database = Some(value),
-            Setting::SymbolStore => self.stores.push(value)?,
             Setting::AdjustVma => self.adjust = Some(value),
-            Setting::Functions => self.function = Some(function_of(value.as_str())),
-            Setting::OutputStyle => self.style = Some(style_of(value.as_str())),
+            Setting::Functions => self.function = Some(function_of(value)),
+            Setting::OutputStyle => self.style = Some(style_of(value)),
             Setting::ContextLines => self.context_lines = Some(value),
             Setting::BuildId => self.build_id = Some(value),
             Setting::CacheSize => self.cache_size = Some(value),
-            Setting::DsymHint => self.dsym_hints.push(value)?,
             Setting::Ignored => {}
         }
         Ok(())
     }
 
-    /// Reports a word that is no option.
-    fn refuse(&mut self, alloc: Global, word: &str) -> Result<(), AllocError> {
-        let error = format!(in alloc; "unknown argument '{word}'")?;
-        self.errors.push(error)?;
-        Ok(())
-    }
-
-    /// Reads a word, or the letters of one that are left. Returns the option that wants the next
-    /// word, if this is one, and whether there may be letters after this one.
-    fn read_part(
+    /// Takes an option of a word, whose name and value stand after a dash.
+    fn take_option(
         &mut self,
-        alloc: Global,
-        word: &str,
-    ) -> Result<(Option<Setting>, bool), AllocError> {
-        match read_option(word) {
-            OptionWord::Input => {
-                let input = String::from_str(alloc, word)?;
-                self.inputs.push(input)?;
-            }
-            OptionWord::Flag(flag) => self.choose(flag),
-            OptionWord::Joined(setting) => self.set(alloc, setting, after_equals(word))?,
-            OptionWord::JoinedFile => self.set(alloc, Setting::Object, after_letter(word))?,
-            OptionWord::Wanting(setting) => return Ok((Some(setting), false)),
-            OptionWord::Letter(flag) => {
-                self.choose(flag);
-                return Ok((None, true));
-            }
+        option: OptionWord,
+        word: &'w str,
+        name: &'w str,
+    ) -> Result<(), AllocError> {
+        match option {
+            OptionWord::Input => push(&mut self.inputs, word),
+            OptionWord::Joined(setting) => self.set(setting, after_equals(name)),
+            OptionWord::JoinedFile => self.set(Setting::Object, after_first(name)),
+            OptionWord::Unknown => push(&mut self.errors, WordFault::Name(name)),
             OptionWord::UnknownLetter => {
-                let letter = word.chars().nth(1).unwrap_or('-');
-                let word = format!(in alloc; "-{letter}")?;
-                self.refuse(alloc, word.as_str())?;
-                return Ok((None, true));
+                let letter = name.chars().next().unwrap_or('-');
+                push(&mut self.errors, WordFault::Letter(letter))
             }
-            OptionWord::Unknown => self.refuse(alloc, word)?,
+            OptionWord::Flag(flag) | OptionWord::Letter(flag) => {
+                self.choose(flag);
+                Ok(())
+            }
+            OptionWord::Wanting(setting) => {
+                self.wanting = Some((setting, word));
+                Ok(())
+            }
         }
-        Ok((None, false))
     }
 
-    /// Reads a word. Returns the option that wants the next word, if this is one.
-    fn read_word(&mut self, alloc: Global, word: &str) -> Result<Option<Setting>, AllocError> {
-        let mut part = String::from_str(alloc, word)?;
+    /// Reads a word: an option, an input, or letters that stand together.
+    fn read_word(&mut self, alloc: Global, word: &'w str) -> Result<(), AllocError> {
+        let mut option = read_option(word);
+        let mut name = after_first(word);
         for _ in 0..word.len() {
-            let (setting, has_more) = self.read_part(alloc, part.as_str())?;
-            if setting.is_some() || !has_more {
-                return Ok(setting);
+            self.take_option(option, word, name)?;
+            name = after_first(name);
+            let may_go_on = matches!(option, OptionWord::Letter(_) | OptionWord::UnknownLetter);
+            if name.is_empty() || !may_go_on {
+                break;
             }
-            part = match after_letter(part.as_str()) {
-                "" => return Ok(None),
-                rest => format!(in alloc; "-{rest}")?,
-            };
+            let part = format!(in alloc; "-{name}")?;
+            option = read_option(part.as_str());
         }
-        Ok(None)
+        Ok(())
     }
 
-    /// Reports that a word lacks its value, before all else.
-    fn lacks_value(&mut self, alloc: Global, word: &str) -> Result<(), AllocError> {
-        let error = format!(in alloc; "{word}: missing argument")?;
-        self.errors.insert(0, error)?;
-        Ok(())
+    /// Takes the choices of the words that the program is given, and the folders of the search
+    /// path after those of the words.
+    ///
+    /// # Errors
+    /// Where memory ran out.
+    pub fn read(&mut self, alloc: Global, given: &'w GivenWords) -> Result<(), AllocError> {
+        for word in &given.words {
+            let read = match self.wanting.take() {
+                Some((setting, _)) => self.set(setting, word.as_str()),
+                None => self.read_word(alloc, word.as_str()),
+            };
+            read?;
+        }
+        // That the last word lacks its value is reported before all else.
+        if let Some((_, word)) = self.wanting {
+            self.errors.insert(0, WordFault::NoValue(word))?;
+        }
+        push_search_path(&mut self.stores, given.search_path.as_str())
     }
 }
 
-/// What stands after the first equals sign of a word.
-fn after_equals(word: &str) -> &str {
-    match word.split_once('=') {
+/// The text after the first equals sign of another; empty where there is none.
+fn after_equals(text: &str) -> &str {
+    match text.split_once('=') {
         Some((_, value)) => value,
         None => "",
     }
 }
 
-/// What stands after a dash and a letter.
-fn after_letter(word: &str) -> &str {
-    let mut letters = word.chars();
-    let _ = letters.next();
+/// The text after the first character of another.
+fn after_first(text: &str) -> &str {
+    let mut letters = text.chars();
     let _ = letters.next();
     letters.as_str()
-}
-
-/// What words choose.
-///
-/// # Errors
-/// Where memory ran out.
-pub fn read_choices(alloc: Global, words: &[String]) -> Result<Choices, AllocError> {
-    let mut choices = Choices::new(alloc);
-    let mut wanting: Option<(Setting, &str)> = None;
-    for word in words {
-        if let Some((setting, _)) = wanting.take() {
-            choices.set(alloc, setting, word.as_str())?;
-        } else {
-            wanting = match choices.read_word(alloc, word.as_str())? {
-                Some(setting) => Some((setting, word.as_str())),
-                None => None,
-            };
-        }
-    }
-    if let Some((_, word)) = wanting {
-        choices.lacks_value(alloc, word)?;
-    }
-    Ok(choices)
 }

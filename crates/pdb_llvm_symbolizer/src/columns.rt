@@ -80,8 +80,8 @@ impl<'a> Columns<'a> {
             return Ok(0);
         };
         match column_for(program, start, offset) {
-            Ok(column) => Ok(column.unwrap_or(0)),
-            Err(_) => Ok(0),
+            Ok(Some(column)) => Ok(column),
+            Ok(None) | Err(_) => Ok(0),
         }
     }
 }

@@ -1,10 +1,9 @@
 //! The words of a text that holds arguments: of a response file, or of an environment variable.
 
 use std::alloc::{AllocError, Global};
-use std::mem::replace;
 
 /// How the next byte is read.
-#[derive(Clone, Copy, PartialEq, Eq)]
+#[derive(Clone, Copy)]
 enum Mode {
     /// Outside quotes.
     Plain,
@@ -16,89 +15,73 @@ enum Mode {
     QuotedEscaped(u8),
 }
 
-/// The words so far, and the one that didn't end.
-#[derive(Drop)]
-struct Reading {
-    words: Vec<String>,
-    word: Vec<u8>,
-    mode: Mode,
+/// The effect of a byte on the word that is read.
+#[derive(Clone, Copy)]
+enum Effect {
+    /// None.
+    Skip,
+    /// The byte is the word's next.
+    Take,
+    /// The word ends before the byte.
+    End,
 }
 
-impl Reading {
-    /// Ends the word, unless it is empty.
-    fn end_word(&mut self, alloc: Global) -> Result<(), AllocError> {
-        if self.word.is_empty() {
-            return Ok(());
-        }
-        let word = replace(&mut self.word, Vec::new(alloc));
-        let word = String::from_utf8_lossy(alloc, &word)?;
-        self.words.push(word)?;
-        Ok(())
-    }
-
-    /// Reads a byte outside quotes.
-    fn read_plain(&mut self, alloc: Global, byte: u8) -> Result<(), AllocError> {
-        match byte {
-            b'\\' => self.mode = Mode::Escaped,
-            b'"' | b'\'' => self.mode = Mode::Quoted(byte),
-            b' ' | b'\t' | b'\r' | b'\n' => return self.end_word(alloc),
-            _ => self.word.push(byte)?,
-        }
-        Ok(())
-    }
-
-    /// Reads a byte in quotes.
-    fn read_quoted(&mut self, quote: u8, byte: u8) -> Result<(), AllocError> {
-        if byte == quote {
-            self.mode = Mode::Plain;
-        } else if byte == b'\\' {
-            self.mode = Mode::QuotedEscaped(quote);
-        } else {
-            self.word.push(byte)?;
-        }
-        Ok(())
-    }
-
-    /// Reads a byte as it is, after a backslash.
-    fn read_escaped(&mut self, mode: Mode, byte: u8) -> Result<(), AllocError> {
-        self.mode = mode;
-        self.word.push(byte)?;
-        Ok(())
-    }
-
-    /// Reads a byte.
-    fn read(&mut self, alloc: Global, byte: u8) -> Result<(), AllocError> {
-        match self.mode {
-            Mode::Plain => self.read_plain(alloc, byte),
-            Mode::Quoted(quote) => self.read_quoted(quote, byte),
-            Mode::Escaped => self.read_escaped(Mode::Plain, byte),
-            Mode::QuotedEscaped(quote) => self.read_escaped(Mode::Quoted(quote), byte),
-        }
-    }
-
-    /// Reads the end of the text, where a backslash stands for itself.
-    fn end(&mut self, alloc: Global) -> Result<(), AllocError> {
-        if matches!(self.mode, Mode::Escaped | Mode::QuotedEscaped(_)) {
-            self.word.push(b'\\')?;
-        }
-        self.end_word(alloc)
+/// The effect of a byte, and how the next one is read.
+fn step(mode: Mode, byte: u8) -> (Effect, Mode) {
+    match mode {
+        Mode::Escaped => (Effect::Take, Mode::Plain),
+        Mode::QuotedEscaped(quote) => (Effect::Take, Mode::Quoted(quote)),
+        Mode::Quoted(quote) if byte == quote => (Effect::Skip, Mode::Plain),
+        Mode::Quoted(quote) if byte == b'\\' => (Effect::Skip, Mode::QuotedEscaped(quote)),
+        Mode::Quoted(_) => (Effect::Take, mode),
+        Mode::Plain => match byte {
+            b'\\' => (Effect::Skip, Mode::Escaped),
+            b'"' | b'\'' => (Effect::Skip, Mode::Quoted(byte)),
+            b' ' | b'\t' | b'\r' | b'\n' => (Effect::End, mode),
+            _ => (Effect::Take, mode),
+        },
     }
 }
 
-/// The words of a text, as LLVM's programs read it: blanks part words, a backslash takes the next
-/// byte as it is, and in quotes blanks are taken, too. An empty word is none.
+/// Ends the word, unless it is empty.
+fn end_word(alloc: Global, word: &mut Vec<u8>, words: &mut Vec<String>) -> Result<(), AllocError> {
+    if !word.is_empty() {
+        words.push(String::from_utf8_lossy(alloc, word)?)?;
+        word.clear();
+    }
+    Ok(())
+}
+
+/// Appends the words of a text, of which the last is made in `word`. At the end of the text a
+/// backslash stands for itself.
+fn read_words(
+    alloc: Global,
+    text: &[u8],
+    word: &mut Vec<u8>,
+    words: &mut Vec<String>,
+) -> Result<(), AllocError> {
+    let mut mode = Mode::Plain;
+    for byte in text {
+        let (effect, next) = step(mode, *byte);
+        mode = next;
+        match effect {
+            Effect::Skip => {}
+            Effect::Take => word.push(*byte)?,
+            Effect::End => end_word(alloc, word, words)?,
+        }
+    }
+    if matches!(mode, Mode::Escaped | Mode::QuotedEscaped(_)) {
+        word.push(b'\\')?;
+    }
+    end_word(alloc, word, words)
+}
+
+/// Appends the words of a text, as LLVM's programs read it: blanks part words, a backslash takes
+/// the next byte as it is, and in quotes blanks are taken, too. An empty word is none.
 ///
 /// # Errors
 /// Where memory ran out.
-pub fn split_words(alloc: Global, text: &[u8]) -> Result<Vec<String>, AllocError> {
-    let mut reading = Reading {
-        words: Vec::new(alloc),
-        word: Vec::new(alloc),
-        mode: Mode::Plain,
-    };
-    for byte in text {
-        reading.read(alloc, *byte)?;
-    }
-    reading.end(alloc)?;
-    Ok(reading.words)
+pub fn push_words(alloc: Global, text: &[u8], words: &mut Vec<String>) -> Result<(), AllocError> {
+    let mut word = Vec::new(alloc);
+    read_words(alloc, text, &mut word, words)
 }

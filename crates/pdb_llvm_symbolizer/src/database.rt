@@ -1,14 +1,15 @@
 //! Files that addresses are of: images with their databases, and databases alone.
 
 use crate::arguments::Arguments;
-use crate::folders::{find_in, joined, unless_memory};
+use crate::folders::{find_in, unless_memory};
+use crate::loaded::FileAnswers;
 use crate::open_error::OpenError;
 use crate::regular_file::open_regular;
 use crate::stores::find_in_stores;
 use bumpalo::Bump;
 use pdb_addr2line::{ContributionOrder, FileOnDemand, FileSymbolizer, TypeFormatterFlags};
 use pdb_file_views::reach;
-use pdb_image::{Image, PdbIdentity, read_image};
+use pdb_image::{CodeView, Image, PdbIdentity, read_image};
 use pdb_llvm_protocol::{split_identity, without_architecture};
 use std::alloc::{AllocError, Global};
 use std::fs;
@@ -16,48 +17,18 @@ use std::io::{self, ErrorKind};
 use std::os::unix::fs::FileExt;
 use std::rt::Files;
 
-/// A database that is read on demand, with where its image wants to be loaded.
-#[derive(Drop)]
-pub struct Database<'a, F: Drop> {
-    /// The image base; 0 of a database alone.
-    pub image_base: u64,
-    /// What answers by its file. What is held of that lies in the arena.
-    pub file: FileSymbolizer<'a, F>,
-}
-
-/// What is read of an image: its base, and the identity and path of its database.
-#[derive(Drop)]
-struct ImageRecord {
-    base: u64,
-    identity: PdbIdentity,
-    path: String,
-}
-
-/// What an image says of itself.
-fn image_record(alloc: Global, bytes: &[u8]) -> Result<ImageRecord, OpenError> {
+/// The base of an image, and the record of its database.
+fn image_record(bytes: &[u8]) -> Result<(u64, CodeView<'_>), OpenError> {
     let image = Image::parse(bytes)?;
-    let Some(record) = image.code_view()? else {
-        return Err(OpenError::NoDatabase);
-    };
-    let path = record.path().to_string(alloc)?;
-    Ok(ImageRecord {
-        base: image.image_base(),
-        identity: record.identity(),
-        path: String::from_str(alloc, &path)?,
-    })
-}
-
-/// What stands after the last separator of a path, or all of it.
-fn after_last(path: &str, separator: char) -> &str {
-    match path.rsplit_once(separator) {
-        Some((_, name)) => name,
-        None => path,
+    match image.code_view()? {
+        Some(record) => Ok((image.image_base(), record)),
+        None => Err(OpenError::NoDatabase),
     }
 }
 
 /// The name at the end of a path that an image has.
 fn file_name(path: &str) -> &str {
-    after_last(after_last(path, '/'), '\\')
+    path.rsplit(['/', '\\']).next().unwrap_or(path)
 }
 
 /// The folder that a file lies in; empty for that of the process.
@@ -69,51 +40,42 @@ fn folder_of(file: &str) -> &str {
     }
 }
 
-/// The path of a name in the folder of a file, in that case or another one; as it would be there
-/// where no such file is.
-fn beside(rt: &(impl Files + AllocGlobal), file: &str, name: &str) -> Result<String, AllocError> {
-    let folder = folder_of(file);
-    match find_in(rt, folder, name)? {
-        Some(path) => Ok(path),
-        None => joined(rt, folder, name),
-    }
-}
-
-/// The flags of the names of functions: they have no arguments.
-fn flags() -> TypeFormatterFlags {
-    TypeFormatterFlags::default() | TypeFormatterFlags::NO_ARGUMENTS
-}
-
-/// The database of a file. With an identity, that of the database has to match it.
+/// The answers of a file with its database, whose image wants to be loaded at this base.
 fn load<'a, F: FileExt + Drop>(
     alloc: Global,
-    mut file: FileOnDemand<'a, F>,
+    file: FileOnDemand<'a, F>,
     image_base: u64,
-    identity: Option<PdbIdentity>,
-) -> Result<Database<'a, F>, OpenError> {
-    if let Some(wanted) = identity {
-        if !wanted.matches(&file.identity(alloc)?) {
-            return Err(OpenError::OtherBuild);
-        }
-    }
-    match FileSymbolizer::open_with_flags(alloc, file, flags()) {
-        Ok(file) => Ok(Database { image_base, file }),
+) -> Result<FileAnswers<'a, F>, OpenError> {
+    // The names of functions have no arguments.
+    let flags = TypeFormatterFlags::default() | TypeFormatterFlags::NO_ARGUMENTS;
+    match FileSymbolizer::open_with_flags(alloc, file, flags) {
+        Ok(file) => Ok(FileAnswers::new(alloc, file, image_base)),
         Err(refused) => Err(OpenError::from(refused.fault)),
     }
 }
 
-/// A regular file at a path, of which nothing was read. Section contributions may stand in any
-/// order.
+/// A regular file of so many bytes, of which nothing was read. Section contributions may stand in
+/// any order.
+fn read_on_demand<'a, F: FileExt + Drop>(
+    alloc: Global,
+    arena: &'a Bump,
+    file: F,
+    size: u64,
+) -> Result<FileOnDemand<'a, F>, OpenError> {
+    let size = reach(&file, size)?;
+    let mut read = FileOnDemand::new(alloc, arena, file, size)?;
+    read.order = ContributionOrder::Any;
+    Ok(read)
+}
+
+/// A regular file at a path, of which nothing was read.
 fn open_read<'a, F: FileExt + Drop>(
     rt: &(impl Files<File = F> + AllocGlobal),
     arena: &'a Bump,
     path: &str,
 ) -> Result<FileOnDemand<'a, F>, OpenError> {
     let (file, size) = open_regular(rt, path)?;
-    let size = reach(&file, size)?;
-    let mut read = FileOnDemand::new(rt.alloc(), arena, file, size)?;
-    read.order = ContributionOrder::Any;
-    Ok(read)
+    read_on_demand(rt.alloc(), arena, file, size)
 }
 
 /// The file of an image's database, at a path.
@@ -131,46 +93,53 @@ fn database_at<'a, F: FileExt + Drop>(
     }
 }
 
-/// The file of an image's database in the first store that has it.
-fn database_in_stores<'a, F: FileExt + Drop>(
+/// The file of an image's database in a store, or otherwise at the path that the image names.
+fn stored_database<'a, F: FileExt + Drop>(
     rt: &(impl Files<File = F> + AllocGlobal),
     arena: &'a Bump,
-    stores: &[String],
-    name: &str,
+    stores: &[&str],
+    path: &str,
     identity: PdbIdentity,
-) -> Result<Option<FileOnDemand<'a, F>>, OpenError> {
-    if stores.is_empty() {
-        return Ok(None);
-    }
+) -> Result<FileOnDemand<'a, F>, OpenError> {
     let identity = format!(in rt.alloc(); "{identity}")?;
-    match find_in_stores(rt, stores, name, identity.as_str())? {
-        Some(path) => Ok(Some(database_at(rt, arena, path.as_str())?)),
-        None => Ok(None),
+    match find_in_stores(rt, stores, file_name(path), identity.as_str()) {
+        Ok(Some(stored)) => database_at(rt, arena, stored.as_str()),
+        Ok(None) => database_at(rt, arena, path),
+        Err(error) => Err(error.into()),
     }
 }
 
-/// The file of an image's database: the one that is given, or that beside the image, or in a store,
-/// or at the path that the image names.
+/// The file of an image's database beside the image; None where no such file can be read.
+fn database_beside<'a, F: FileExt + Drop>(
+    rt: &(impl Files<File = F> + AllocGlobal),
+    arena: &'a Bump,
+    file: &str,
+    name: &str,
+) -> Result<Option<FileOnDemand<'a, F>>, OpenError> {
+    let Some(path) = find_in(rt, folder_of(file), name)? else {
+        return Ok(None);
+    };
+    match open_read(rt, arena, path.as_str()) {
+        Ok(read) => Ok(Some(read)),
+        Err(OpenError::File(_)) => Ok(None),
+        Err(error) => Err(error),
+    }
+}
+
+/// The file of an image's database: that beside the image, or in a store, or at the path that the
+/// image names.
 fn database_of_image<'a, F: FileExt + Drop>(
     rt: &(impl Files<File = F> + AllocGlobal),
     arena: &'a Bump,
     file: &str,
-    record: &ImageRecord,
-    arguments: &Arguments,
+    record: &CodeView<'_>,
+    stores: &[&str],
 ) -> Result<FileOnDemand<'a, F>, OpenError> {
-    if let Some(given) = &arguments.database {
-        return database_at(rt, arena, given.as_str());
-    }
-    let path = record.path.as_str();
-    let name = file_name(path);
-    let near = beside(rt, file, name)?;
-    match database_at(rt, arena, near.as_str()) {
-        Err(OpenError::DatabaseFile(_, _)) => {}
-        found => return found,
-    }
-    match database_in_stores(rt, arena, &arguments.stores, name, record.identity)? {
-        Some(file) => Ok(file),
-        None => database_at(rt, arena, path),
+    let path = record.path().to_string(rt.alloc())?;
+    match database_beside(rt, arena, file, file_name(&path)) {
+        Ok(Some(read)) => Ok(read),
+        Ok(None) => stored_database(rt, arena, stores, &path, record.identity()),
+        Err(error) => Err(error),
     }
 }
 
@@ -180,31 +149,52 @@ fn image_bytes(rt: &(impl Files + AllocGlobal), path: &str) -> io::Result<Vec<u8
     read_image(rt.alloc(), &mut file)
 }
 
-/// Reads the database of an image.
+/// Checks that a database has the identity that an image says.
+fn check_identity<F: FileExt + Drop>(
+    alloc: Global,
+    file: &mut FileOnDemand<'_, F>,
+    wanted: PdbIdentity,
+) -> Result<(), OpenError> {
+    if wanted.matches(&file.identity(alloc)?) {
+        Ok(())
+    } else {
+        Err(OpenError::OtherBuild)
+    }
+}
+
+/// Reads the database of an image: the one that is given, or otherwise the image's own.
 fn open_image<'a, F: FileExt + Drop>(
     rt: &(impl Files<File = F> + AllocGlobal),
     arena: &'a Bump,
     file: &str,
-    arguments: &Arguments,
-) -> Result<Database<'a, F>, OpenError> {
-    let image = image_bytes(rt, file)?;
-    let record = image_record(rt.alloc(), image.as_slice())?;
-    let database = database_of_image(rt, arena, file, &record, arguments)?;
-    load(rt.alloc(), database, record.base, Some(record.identity))
+    arguments: &Arguments<'_>,
+) -> Result<FileAnswers<'a, F>, OpenError> {
+    let bytes = image_bytes(rt, file)?;
+    let (image_base, record) = image_record(bytes.as_slice())?;
+    let database = match arguments.choices.database {
+        Some(given) => database_at(rt, arena, given),
+        None => database_of_image(rt, arena, file, &record, &arguments.choices.stores),
+    };
+    let mut database = database?;
+    match check_identity(rt.alloc(), &mut database, record.identity()) {
+        Ok(()) => load(rt.alloc(), database, image_base),
+        Err(error) => Err(error),
+    }
 }
 
 /// Reads the database of a file into an arena: of an image, or the file itself.
 fn open_file<'a, F: FileExt + Drop>(
     rt: &(impl Files<File = F> + AllocGlobal),
     arena: &'a Bump,
-    file: &str,
-    arguments: &Arguments,
-) -> Result<Database<'a, F>, OpenError> {
-    let opened = open_read(rt, arena, file)?;
-    if is_image(&opened.file)? {
-        return open_image(rt, arena, file, arguments);
+    path: &str,
+    arguments: &Arguments<'_>,
+) -> Result<FileAnswers<'a, F>, OpenError> {
+    let (file, size) = open_regular(rt, path)?;
+    if is_image(&file)? {
+        return open_image(rt, arena, path, arguments);
     }
-    load(rt.alloc(), opened, 0, None)
+    let read = read_on_demand(rt.alloc(), arena, file, size)?;
+    load(rt.alloc(), read, 0)
 }
 
 /// Whether a file begins as an image does.
@@ -217,19 +207,27 @@ fn is_image(file: &impl FileExt) -> io::Result<bool> {
     }
 }
 
-/// The path of a file in a store, of a name with an identity after a colon.
+/// The path of a file that isn't there in a store, of a name with an identity after its last colon.
 fn path_in_stores(
     rt: &(impl Files + AllocGlobal),
-    stores: &[String],
+    stores: &[&str],
     name: &str,
 ) -> Result<Option<String>, AllocError> {
-    let Some((file, identity)) = split_identity(name.as_bytes()) else {
-        return Ok(None);
-    };
-    let file = String::from_utf8_lossy(rt.alloc(), file)?;
-    let identity = String::from_utf8_lossy(rt.alloc(), identity)?;
-    let file = file_name(file.as_str());
-    find_in_stores(rt, stores, file, identity.as_str())
+    let is_there = unless_memory(fs::exists(rt, name));
+    match (is_there, name.rsplit_once(':')) {
+        (Ok(None | Some(false)), Some((file, identity)))
+            if split_identity(name.as_bytes()).is_some() => {
+            find_in_stores(rt, stores, file_name(file), identity)
+        }
+        (Ok(_), _) => Ok(None),
+        (Err(error), _) => Err(error),
+    }
+}
+
+/// The name of a file without the architecture that may stand after a colon.
+fn bare_name(file: &str) -> &str {
+    let length = without_architecture(file.as_bytes()).len();
+    file.get(..length).unwrap_or(file)
 }
 
 /// Reads the database of a file into an arena: of an image, or the file itself. An
@@ -242,16 +240,12 @@ pub fn open<'a, F: FileExt + Drop>(
     rt: &(impl Files<File = F> + AllocGlobal),
     arena: &'a Bump,
     file: &str,
-    arguments: &Arguments,
-) -> Result<Database<'a, F>, OpenError> {
-    let bare = without_architecture(file.as_bytes());
-    let bare = String::from_utf8_lossy(rt.alloc(), bare)?;
-    let bare = bare.as_str();
-    if let Some(true) = unless_memory(fs::exists(rt, bare))? {
-        return open_file(rt, arena, bare, arguments);
-    }
-    match path_in_stores(rt, &arguments.stores, bare)? {
-        Some(path) => open_file(rt, arena, path.as_str(), arguments),
-        None => open_file(rt, arena, bare, arguments),
+    arguments: &Arguments<'_>,
+) -> Result<FileAnswers<'a, F>, OpenError> {
+    let bare = bare_name(file);
+    match path_in_stores(rt, &arguments.choices.stores, bare) {
+        Ok(Some(path)) => open_file(rt, arena, path.as_str(), arguments),
+        Ok(None) => open_file(rt, arena, bare, arguments),
+        Err(error) => Err(error.into()),
     }
 }

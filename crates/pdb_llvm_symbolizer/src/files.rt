@@ -1,7 +1,8 @@
 //! The files of a run, each loaded once, and the answers to lines by them.
 
 use crate::arguments::Arguments;
-use crate::loaded::{AskedAddress, FileAnswers, load};
+use crate::database::open;
+use crate::loaded::{AskedAddress, FileAnswers};
 use crate::open_error::OpenError;
 use bumpalo::Bump;
 use pdb_addr2line::LoadFault;
@@ -25,7 +26,7 @@ struct AskedFile<'a, F: Drop> {
 /// The files that were asked for, each loaded once, and how their addresses are answered.
 #[derive(Drop)]
 pub struct AskedFiles<'a, F: Drop> {
-    arguments: &'a Arguments,
+    arguments: &'a Arguments<'a>,
     arena: &'a Bump,
     files: Vec<AskedFile<'a, F>>,
     /// The number of each file, by its name in requests.
@@ -33,13 +34,13 @@ pub struct AskedFiles<'a, F: Drop> {
 }
 
 /// Reports an error of a file on standard error; a write that fails is ignored.
-fn tell_error(rt: &impl Eprint, arguments: &Arguments, subject: &str, reason: &str) {
-    let program = arguments.program.as_str();
+fn tell_error(rt: &impl Eprint, arguments: &Arguments<'_>, subject: &str, reason: &str) {
+    let program = arguments.program;
     let _ = eprintln!(rt; "{program}: error: '{subject}': {reason}");
 }
 
 /// Reports an error of a file, but where answers are JSON and have it.
-fn tell(rt: &impl Eprint, arguments: &Arguments, subject: &str, reason: &str) {
+fn tell(rt: &impl Eprint, arguments: &Arguments<'_>, subject: &str, reason: &str) {
     if arguments.texts.style != Style::Json {
         tell_error(rt, arguments, subject, reason);
     }
@@ -57,15 +58,15 @@ fn shown_part(line: &[u8]) -> &[u8] {
 /// Reports why a line is no request. Of an empty line and a symbol's name nothing is said.
 fn tell_fault(
     rt: &(impl Eprint + AllocGlobal),
-    arguments: &Arguments,
+    arguments: &Arguments<'_>,
     line: &[u8],
     fault: RequestFault,
 ) -> Result<(), AllocError> {
-    if fault == RequestFault::EmptyLine || fault == RequestFault::SymbolName {
+    if matches!(fault, RequestFault::EmptyLine | RequestFault::SymbolName) {
         return Ok(());
     }
     let line = String::from_utf8_lossy(rt.alloc(), shown_part(line))?;
-    let program = arguments.program.as_str();
+    let program = arguments.program;
     let _ = eprintln!(rt; "{program}: error: '{line}': {fault}");
     Ok(())
 }
@@ -75,7 +76,7 @@ fn tell_fault(
 fn append_failure(
     alloc: Global,
     output: &mut Vec<u8>,
-    arguments: &Arguments,
+    arguments: &Arguments<'_>,
     asked: AskedAddress<'_>,
     reason: &str,
 ) -> Result<(), AllocError> {
@@ -85,61 +86,33 @@ fn append_failure(
         file,
         address,
     } = asked;
-    match command {
-        Command::Data if texts.style != Style::Json => {
-            append_no_data(alloc, output, texts, file, address)
-        }
-        Command::Frame if texts.style != Style::Json => {
-            append_no_locals(alloc, output, texts, file, address)
-        }
-        Command::Code | Command::Data | Command::Frame => {
+    match (command, texts.style) {
+        (Command::Code, _) | (_, Style::Json) => {
             append_error(alloc, output, texts, file, address, reason)
         }
+        (Command::Data, _) => append_no_data(alloc, output, texts, file, address),
+        (Command::Frame, _) => append_no_locals(alloc, output, texts, file, address),
     }
 }
 
-/// What answers a file's addresses, or why it can't be loaded, as a text. Where memory runs out,
+/// Loads the file of this name, and reports it where it can't be loaded. Where memory runs out,
 /// nothing is known of the file.
-fn load_or_reason<'a, F: FileExt + Drop>(
-    rt: &(impl Files<File = F> + AllocGlobal),
+fn load_file<'a, F: FileExt + Drop>(
+    rt: &(impl Files<File = F> + Eprint + AllocGlobal),
     arena: &'a Bump,
-    arguments: &Arguments,
-    file: &str,
-) -> Result<Result<FileAnswers<'a, F>, String>, AllocError> {
-    match load(rt, arena, arguments, file) {
-        Ok(loaded) => Ok(Ok(loaded)),
-        Err(OpenError::Load(LoadFault::OutOfMemory)) => Err(AllocError),
+    arguments: &Arguments<'_>,
+    text: String,
+) -> Result<AskedFile<'a, F>, AllocError> {
+    let loaded = match open(rt, arena, text.as_str(), arguments) {
+        Ok(loaded) => Ok(loaded),
+        Err(OpenError::Load(LoadFault::OutOfMemory)) => return Err(AllocError),
         Err(error) => {
             let reason = format!(in rt.alloc(); "{error}")?;
-            Ok(Err(reason))
+            tell(rt, arguments, text.as_str(), reason.as_str());
+            Err(reason)
         }
-    }
-}
-
-/// Where a request is answered.
-enum AnsweredBy<'n> {
-    /// By the file of this name.
-    File(&'n [u8]),
-    /// By the object that has this build ID, which no PDB has.
-    BuildId(String),
-}
-
-/// What a request is answered by.
-fn answered_by<'n>(
-    alloc: Global,
-    request: &LineRequest<'n>,
-    arguments: &'n Arguments,
-) -> Result<AnsweredBy<'n>, AllocError> {
-    let hash = match (request.file, &arguments.object, &arguments.build_id) {
-        (RequestedFile::Named(name), _, _) => return Ok(AnsweredBy::File(name)),
-        (RequestedFile::BuildId(hash), _, _) => String::from_utf8_lossy(alloc, hash)?,
-        (RequestedFile::Given, Some(name), _) => {
-            return Ok(AnsweredBy::File(name.as_str().as_bytes()));
-        }
-        (RequestedFile::Given, None, Some(hash)) => String::from_str(alloc, hash.as_str())?,
-        (RequestedFile::Given, None, None) => return Ok(AnsweredBy::File(b"")),
     };
-    Ok(AnsweredBy::BuildId(hash.as_str().to_ascii_uppercase(alloc)?))
+    Ok(AskedFile { text, loaded })
 }
 
 impl<'a, F: FileExt + Drop> AskedFile<'a, F> {
@@ -147,7 +120,7 @@ impl<'a, F: FileExt + Drop> AskedFile<'a, F> {
     fn append_named(
         &mut self,
         alloc: Global,
-        arguments: &Arguments,
+        arguments: &Arguments<'_>,
         request: LineRequest<'_>,
         output: &mut Vec<u8>,
     ) -> Result<(), AllocError> {
@@ -170,7 +143,7 @@ impl<'a, F: FileExt + Drop> AskedFile<'a, F> {
 
 impl<'a, F: FileExt + Drop> AskedFiles<'a, F> {
     /// No files, which are asked as the arguments say.
-    pub fn new(alloc: Global, arguments: &'a Arguments, arena: &'a Bump) -> AskedFiles<'a, F> {
+    pub fn new(alloc: Global, arguments: &'a Arguments<'a>, arena: &'a Bump) -> AskedFiles<'a, F> {
         AskedFiles {
             arguments,
             arena,
@@ -190,13 +163,10 @@ impl<'a, F: FileExt + Drop> AskedFiles<'a, F> {
             return Ok(*number);
         }
         let number = self.files.len();
-        let key = Vec::from_slice(rt.alloc(), name)?;
         let text = String::from_utf8_lossy(rt.alloc(), name)?;
-        let loaded = load_or_reason(rt, self.arena, self.arguments, text.as_str())?;
-        if let Err(reason) = &loaded {
-            tell(rt, self.arguments, text.as_str(), reason.as_str());
-        }
-        self.files.push(AskedFile { text, loaded })?;
+        let file = load_file(rt, self.arena, self.arguments, text)?;
+        self.files.push(file)?;
+        let key = Vec::from_slice(rt.alloc(), name)?;
         self.numbers.insert(key, number)?;
         Ok(number)
     }
@@ -212,10 +182,10 @@ impl<'a, F: FileExt + Drop> AskedFiles<'a, F> {
         output: &mut Vec<u8>,
     ) -> Result<bool, AllocError> {
         let arguments = self.arguments;
-        let Some(object) = &arguments.object else {
+        let Some(object) = arguments.choices.object else {
             return Ok(true);
         };
-        let number = self.ask(rt, object.as_str().as_bytes())?;
+        let number = self.ask(rt, object.as_bytes())?;
         let Some(
             AskedFile {
                 loaded: Err(reason),
@@ -225,12 +195,15 @@ impl<'a, F: FileExt + Drop> AskedFiles<'a, F> {
         else {
             return Ok(true);
         };
-        if arguments.texts.style == Style::Json {
-            let mut texts = arguments.texts;
-            texts.in_array = false;
-            append_error(rt.alloc(), output, texts, text.as_str(), 0, reason.as_str())?;
+        if arguments.texts.style != Style::Json {
+            return Ok(false);
         }
-        Ok(false)
+        let mut texts = arguments.texts;
+        texts.in_array = false;
+        match append_error(rt.alloc(), output, texts, text.as_str(), 0, reason.as_str()) {
+            Ok(()) => Ok(false),
+            Err(error) => Err(error),
+        }
     }
 
     /// Reports the file that couldn't be read after it was loaded, if there is one. Returns whether
@@ -247,16 +220,39 @@ impl<'a, F: FileExt + Drop> AskedFiles<'a, F> {
         false
     }
 
-    /// Appends the answer to a request for an object that is named by its build ID.
+    /// Appends the answer to a request for the object that has this build ID, which no PDB has.
     fn append_build_id(
         &self,
         rt: &(impl Eprint + AllocGlobal),
-        asked: AskedAddress<'_>,
+        hash: &[u8],
+        request: LineRequest<'_>,
         output: &mut Vec<u8>,
     ) -> Result<(), AllocError> {
+        let mut hash = String::from_utf8_lossy(rt.alloc(), hash)?;
+        hash.make_ascii_uppercase();
+        let asked = AskedAddress {
+            command: request.command,
+            file: hash.as_str(),
+            address: request.address,
+        };
         let reason = "could not find build ID";
         tell(rt, self.arguments, asked.file, reason);
         append_failure(rt.alloc(), output, self.arguments, asked, reason)
+    }
+
+    /// Appends the answer to a request by the file of this name.
+    fn append_by(
+        &mut self,
+        rt: &(impl Files<File = F> + Eprint + AllocGlobal),
+        name: &[u8],
+        request: LineRequest<'_>,
+        output: &mut Vec<u8>,
+    ) -> Result<(), AllocError> {
+        let number = self.ask(rt, name)?;
+        match self.files.get_mut(number) {
+            None => Ok(()),
+            Some(file) => file.append_named(rt.alloc(), self.arguments, request, output),
+        }
     }
 
     /// Appends the answer to a request.
@@ -266,22 +262,19 @@ impl<'a, F: FileExt + Drop> AskedFiles<'a, F> {
         request: LineRequest<'_>,
         output: &mut Vec<u8>,
     ) -> Result<(), AllocError> {
-        let arguments = self.arguments;
-        let name = match answered_by(rt.alloc(), &request, arguments)? {
-            AnsweredBy::File(name) => name,
-            AnsweredBy::BuildId(hash) => {
-                let asked = AskedAddress {
-                    command: request.command,
-                    file: hash.as_str(),
-                    address: request.address,
-                };
-                return self.append_build_id(rt, asked, output);
+        let choices = self.arguments.choices;
+        match (request.file, choices.object, choices.build_id) {
+            (RequestedFile::Named(name), _, _) => self.append_by(rt, name, request, output),
+            (RequestedFile::Given, Some(name), _) => {
+                self.append_by(rt, name.as_bytes(), request, output)
             }
-        };
-        let number = self.ask(rt, name)?;
-        match self.files.get_mut(number) {
-            None => Ok(()),
-            Some(file) => file.append_named(rt.alloc(), arguments, request, output),
+            (RequestedFile::Given, None, None) => self.append_by(rt, b"", request, output),
+            (RequestedFile::BuildId(hash), _, _) => {
+                self.append_build_id(rt, hash, request, output)
+            }
+            (RequestedFile::Given, None, Some(hash)) => {
+                self.append_build_id(rt, hash.as_bytes(), request, output)
+            }
         }
     }
 
@@ -300,9 +293,9 @@ impl<'a, F: FileExt + Drop> AskedFiles<'a, F> {
             Ok(request) => self.append_request(rt, request, output),
             Err(fault) => {
                 tell_fault(rt, arguments, line, fault)?;
-                let file = match &arguments.object {
-                    Some(object) if fault != RequestFault::EmptyLine => object.as_str(),
-                    Some(_) | None => "",
+                let file = match (arguments.choices.object, fault) {
+                    (None, _) | (_, RequestFault::EmptyLine) => "",
+                    (Some(object), _) => object,
                 };
                 let unknown = [ReportedFrame::unknown()];
                 append_frames(rt.alloc(), output, arguments.texts, file, None, &unknown)

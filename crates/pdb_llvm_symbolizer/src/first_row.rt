@@ -12,7 +12,8 @@ use std::alloc::{AllocError, Global};
 #[derive(Drop)]
 pub struct FirstRow<'a> {
     found: SharedFunctionFrames<'a>,
-    rva: u32,
+    /// The RVA of the row.
+    pub rva: u32,
     /// How many inlined calls there are at the address that is asked about.
     calls: usize,
 }
@@ -106,22 +107,18 @@ pub fn with_first_row<'a>(
         Some(found) => found.frames.len().saturating_sub(1),
         None => 0,
     };
-    match frames_or_none(context, alloc, first)? {
-        Some(found) => Ok(Some(FirstRow {
+    match frames_or_none(context, alloc, first) {
+        Ok(Some(found)) => Ok(Some(FirstRow {
             found,
             rva: first,
             calls,
         })),
-        None => Ok(None),
+        Ok(None) => Ok(None),
+        Err(error) => Err(error),
     }
 }
 
 impl<'a> FirstRow<'a> {
-    /// Returns the RVA of the row.
-    pub fn rva(&self) -> u32 {
-        self.rva
-    }
-
     /// Gives the last of the frames that are reported the file and line of the row with this
     /// column, if that is the function's own: the innermost frame alone is the function's where it
     /// has no inlined calls.
@@ -134,7 +131,7 @@ impl<'a> FirstRow<'a> {
         let Some(own) = self.found.frames.last() else {
             return;
         };
-        if options.asked == Asked::Innermost && self.calls > 0 {
+        if matches!(options.asked, Asked::Innermost) && self.calls > 0 {
             return;
         }
         let place = report_frame(own, self.found.start_rva, self.rva, options.base_names);

@@ -1,7 +1,7 @@
 //! Names in folders, in whatever case they are written.
 
 use std::alloc::AllocError;
-use std::fs::{self, DirEntry};
+use std::fs;
 use std::io::{self, ErrorKind};
 use std::rt::Files;
 
@@ -30,42 +30,31 @@ pub fn unless_memory<T: Drop>(given: io::Result<T>) -> Result<Option<T>, AllocEr
     }
 }
 
-/// The name of an entry of a folder, if it is this one but for the case of its letters.
-fn name_of_entry<S: Files + AllocGlobal>(
-    rt: &S,
-    entry: io::Result<DirEntry<&S>>,
-    name: &str,
-) -> Result<Option<String>, AllocError> {
-    match unless_memory(entry)? {
-        Some(entry) if entry.file_name().eq_ignore_ascii_case(name) => {
-            Ok(Some(String::from_str(rt.alloc(), entry.file_name())?))
-        }
-        _ => Ok(None),
-    }
-}
-
-/// The name in a folder that is this one but for the case of its letters; None where there is none,
-/// and where the folder can't be listed.
-fn name_in_other_case(
+/// The path of a name in a folder that is this one but for the case of its letters; None where
+/// there is none, and where the folder can't be listed.
+fn path_in_other_case(
     rt: &(impl Files + AllocGlobal),
     folder: &str,
     name: &str,
 ) -> Result<Option<String>, AllocError> {
-    let folder = if folder.is_empty() { "." } else { folder };
-    let Some(entries) = unless_memory(fs::read_dir(&rt, folder))? else {
+    let listed = if folder.is_empty() { "." } else { folder };
+    let Some(entries) = unless_memory(fs::read_dir(&rt, listed))? else {
         return Ok(None);
     };
     for entry in entries {
-        let found = name_of_entry(rt, entry, name);
-        if !matches!(found, Ok(None)) {
-            return found;
+        match unless_memory(entry) {
+            Ok(Some(entry)) if entry.file_name().eq_ignore_ascii_case(name) => {
+                return joined(rt, folder, entry.file_name()).map(Some);
+            }
+            Ok(_) => {}
+            Err(error) => return Err(error),
         }
     }
     Ok(None)
 }
 
-/// The path of a name in a folder, of this name or else of one in other case; None where neither is
-/// there.
+/// The path of a name in a folder, of this name or otherwise of one in other case; None where
+/// neither is there.
 ///
 /// # Errors
 /// Where memory ran out.
@@ -75,11 +64,9 @@ pub fn find_in(
     name: &str,
 ) -> Result<Option<String>, AllocError> {
     let path = joined(rt, folder, name)?;
-    if let Some(true) = unless_memory(fs::exists(rt, path.as_str()))? {
-        return Ok(Some(path));
-    }
-    match name_in_other_case(rt, folder, name)? {
-        Some(name) => Ok(Some(joined(rt, folder, name.as_str())?)),
-        None => Ok(None),
+    match unless_memory(fs::exists(rt, path.as_str())) {
+        Ok(Some(true)) => Ok(Some(path)),
+        Ok(_) => path_in_other_case(rt, folder, name),
+        Err(error) => Err(error),
     }
 }

@@ -62,12 +62,23 @@ struct Marks {
 
 /// The marks of an array in JSON, and nothing in another style.
 fn marks_of(texts: TextOptions) -> Marks {
-    let (first, next, last) = match texts.style {
-        Style::Json if texts.pretty => ("[\n  ", ",\n  ", "\n]\n"),
-        Style::Json => ("[", ",", "]\n"),
-        Style::Llvm | Style::Gnu => ("", "", ""),
-    };
-    Marks { first, next, last }
+    match texts.style {
+        Style::Json if texts.pretty => Marks {
+            first: "[\n  ",
+            next: ",\n  ",
+            last: "\n]\n",
+        },
+        Style::Json => Marks {
+            first: "[",
+            next: ",",
+            last: "]\n",
+        },
+        Style::Llvm | Style::Gnu => Marks {
+            first: "",
+            next: "",
+            last: "",
+        },
+    }
 }
 
 impl<'a, S, F> RequestAnswers<'a, S, F>
@@ -106,13 +117,13 @@ pub fn write_made<W: Write>(
 /// `OutOfMemory`, or that the writer failed.
 pub fn write_answers<S: Files<File = F> + Eprint + AllocGlobal, F: FileExt + Drop, W: Write>(
     answers: &mut RequestAnswers<'_, S, F>,
-    arguments: &Arguments,
+    arguments: &Arguments<'_>,
     writer: &mut Watched<W>,
 ) -> Result<(), InputFault> {
     let marks = marks_of(arguments.texts);
     let mut mark = marks.first;
-    for address in &arguments.addresses {
-        let made = answers.make_answer(mark, address.as_str());
+    for address in &arguments.choices.inputs {
+        let made = answers.make_answer(mark, *address);
         write_made(made, &answers.room, writer)?;
         mark = marks.next;
     }

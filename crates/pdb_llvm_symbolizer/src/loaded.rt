@@ -6,12 +6,10 @@ ghost use Rattle.pdb_addr2line.specs.Context.{lasting};
 use crate::arguments::Arguments;
 use crate::choices::FunctionName;
 use crate::columns::Columns;
-use crate::database::{Database, open};
 use crate::first_row::{FirstRow, with_first_row};
 use crate::names::FunctionNames;
-use crate::open_error::{OpenError, reason};
+use crate::open_error::reason;
 use crate::ordered_map::OrderedMap;
-use bumpalo::Bump;
 use pdb_addr2line::{Error, FileContext, FileSymbolizer, Function, SharedFunctionFrames, TRIES};
 use pdb_llvm_protocol::{
     Command, OwnFrame, ReportedFrame, append_frames, append_no_data, append_no_locals,
@@ -20,7 +18,6 @@ use pdb_llvm_protocol::{
 use std::alloc::{AllocError, Global};
 use std::io::{self, ErrorKind};
 use std::os::unix::fs::FileExt;
-use std::rt::Files;
 
 /// What answers the addresses of a file.
 #[derive(Drop)]
@@ -50,75 +47,14 @@ pub struct AskedAddress<'n> {
     pub address: u64,
 }
 
-/// What is known of an address: its frames, the name of its function, and the function's first row
-/// where that lies after it; and the column of the function's own line.
+/// The facts that a context has of an address: its frames, its function, and the function's first
+/// row where that lies after it; and the column of the function's own line.
 #[derive(Drop)]
 struct KnownAddress<'a> {
     found: Option<SharedFunctionFrames<'a>>,
-    name: Option<Vec<u8>>,
+    function: Option<Function>,
     first: Option<FirstRow<'a>>,
     column: u32,
-}
-
-impl<'a> KnownAddress<'a> {
-    /// Appends the answer for the address, by its RVA.
-    fn append(
-        &self,
-        alloc: Global,
-        arguments: &Arguments,
-        (asked, rva): (AskedAddress<'_>, u32),
-        output: &mut Vec<u8>,
-    ) -> Result<(), AllocError> {
-        let name: Option<&[u8]> = match &self.name {
-            Some(name) => Some(name),
-            None => None,
-        };
-        let options = arguments.frames;
-        let own = OwnFrame {
-            name,
-            column: self.column,
-        };
-        let mut frames = report_frames(alloc, &self.found, own, rva, options)?;
-        if let Some(first) = &self.first {
-            first.report(&mut frames, options, self.column);
-        }
-        let address = Some(asked.address);
-        append_frames(alloc, output, arguments.texts, asked.file, address, &frames)
-    }
-}
-
-/// Loads a file into an arena, which holds its memory.
-///
-/// # Errors
-/// Why it can't be loaded.
-pub fn load<'a, F: FileExt + Drop>(
-    rt: &(impl Files<File = F> + AllocGlobal),
-    arena: &'a Bump,
-    arguments: &Arguments,
-    file: &str,
-) -> Result<FileAnswers<'a, F>, OpenError> {
-    let Database { image_base, file } = open(rt, arena, file, arguments)?;
-    let held = file.held();
-    let map = OrderedMap::new(file.address_map());
-    Ok(FileAnswers {
-        image_base,
-        file,
-        texts: AddressTexts {
-            names: FunctionNames::new(held, map),
-            columns: Columns::new(rt.alloc(), held),
-        },
-        failed: None,
-    })
-}
-
-/// The frame of an address without a function.
-fn no_function<'f>() -> ReportedFrame<'f> {
-    ReportedFrame {
-        function: Some(b""),
-        file: None,
-        line: 0,
-        column: 0,
-    }
 }
 
 /// The frames at an address; none where the lines or inlined calls there can't be read.
@@ -141,17 +77,17 @@ impl<'a> AddressTexts<'a> {
     fn name_of(
         &mut self,
         alloc: Global,
-        arguments: &Arguments,
+        arguments: &Arguments<'_>,
         function: &Option<Function>,
         rva: u32,
     ) -> Result<Option<Vec<u8>>, AllocError> {
         let demangle = arguments.demangle;
         let name = match arguments.function {
             FunctionName::None => return Ok(None),
-            FunctionName::Short => self.names.short_name(alloc, function, demangle)?,
-            FunctionName::Linkage => self.names.linkage_name(alloc, function, demangle, rva)?,
+            FunctionName::Short => self.names.short_name(alloc, function, demangle),
+            FunctionName::Linkage => self.names.linkage_name(alloc, function, demangle, rva),
         };
-        Ok(Some(name))
+        name.map(Some)
     }
 
     /// The column of the line of the function's own frame at an address, 0 where it isn't known.
@@ -179,7 +115,6 @@ impl<'a> AddressTexts<'a> {
         &mut self,
         alloc: Global,
         context: &mut FileContext<'a>,
-        arguments: &Arguments,
         rva: u32,
     ) -> Result<KnownAddress<'a>, AllocError>
         ensures { lasting context.new ≡ lasting context.old }
@@ -187,27 +122,64 @@ impl<'a> AddressTexts<'a> {
         let found = frames_or_none(context, alloc, rva)?;
         let function = self.names.function_at(alloc, context, rva)?;
         let first = with_first_row(alloc, context, &function, &found, rva)?;
-        let name = self.name_of(alloc, arguments, &function, rva)?;
         let line_at = match &first {
-            Some(first) => first.rva(),
+            Some(first) => first.rva,
             None => rva,
         };
         let column = self.column_of(alloc, context, &found, line_at)?;
         Ok(KnownAddress {
             found,
-            name,
+            function,
             first,
             column,
         })
     }
+
+    /// Appends the answer for an address, by its RVA.
+    fn append(
+        &mut self,
+        alloc: Global,
+        arguments: &Arguments<'_>,
+        (asked, rva): (AskedAddress<'_>, u32),
+        known: &KnownAddress<'a>,
+        output: &mut Vec<u8>,
+    ) -> Result<(), AllocError> {
+        let name = self.name_of(alloc, arguments, &known.function, rva)?;
+        let own = OwnFrame {
+            name: name.as_deref(),
+            column: known.column,
+        };
+        let options = arguments.frames;
+        let mut frames = report_frames(alloc, &known.found, own, rva, options)?;
+        if let Some(first) = &known.first {
+            first.report(&mut frames, options, known.column);
+        }
+        let address = Some(asked.address);
+        append_frames(alloc, output, arguments.texts, asked.file, address, &frames)
+    }
 }
 
 impl<'a, F: FileExt + Drop> FileAnswers<'a, F> {
+    /// The answers of a file that is opened, whose image wants to be loaded at this base.
+    pub fn new(alloc: Global, file: FileSymbolizer<'a, F>, image_base: u64) -> FileAnswers<'a, F> {
+        let held = file.held();
+        let map = OrderedMap::new(file.address_map());
+        FileAnswers {
+            image_base,
+            file,
+            texts: AddressTexts {
+                names: FunctionNames::new(held, map),
+                columns: Columns::new(alloc, held),
+            },
+            failed: None,
+        }
+    }
+
     /// Appends the answer for an address that has an RVA, by what was read.
     fn append_at(
         &mut self,
         alloc: Global,
-        arguments: &Arguments,
+        arguments: &Arguments<'_>,
         asked: AskedAddress<'_>,
         rva: u32,
         output: &mut Vec<u8>,
@@ -215,9 +187,14 @@ impl<'a, F: FileExt + Drop> FileAnswers<'a, F> {
         let Some(mut context) = self.file.take_context() else {
             return Err(AllocError);
         };
-        let known = self.texts.known_at(alloc, &mut context, arguments, rva);
+        let known = self.texts.known_at(alloc, &mut context, rva);
         self.file.put_context(context);
-        known?.append(alloc, arguments, (asked, rva), output)
+        match known {
+            Ok(known) => self
+                .texts
+                .append(alloc, arguments, (asked, rva), &known, output),
+            Err(error) => Err(error),
+        }
     }
 
     /// Reads what was asked for and is missing, unless reading the file failed before; returns
@@ -250,7 +227,7 @@ impl<'a, F: FileExt + Drop> FileAnswers<'a, F> {
     fn append_rva(
         &mut self,
         alloc: Global,
-        arguments: &Arguments,
+        arguments: &Arguments<'_>,
         asked: AskedAddress<'_>,
         rva: u32,
         output: &mut Vec<u8>,
@@ -272,7 +249,7 @@ impl<'a, F: FileExt + Drop> FileAnswers<'a, F> {
     fn append_code(
         &mut self,
         alloc: Global,
-        arguments: &Arguments,
+        arguments: &Arguments<'_>,
         asked: AskedAddress<'_>,
         output: &mut Vec<u8>,
     ) -> Result<(), AllocError> {
@@ -281,11 +258,17 @@ impl<'a, F: FileExt + Drop> FileAnswers<'a, F> {
             address,
             self.image_base,
             arguments.adjust,
-            arguments.relative,
+            arguments.choices.relative,
         ) {
             Some(rva) => self.append_rva(alloc, arguments, asked, rva, output),
             None => {
-                let frames = [no_function()];
+                let no_function = ReportedFrame {
+                    function: Some(b""),
+                    file: None,
+                    line: 0,
+                    column: 0,
+                };
+                let frames = [no_function];
                 append_frames(alloc, output, arguments.texts, file, Some(address), &frames)
             }
         }
@@ -299,7 +282,7 @@ impl<'a, F: FileExt + Drop> FileAnswers<'a, F> {
     pub fn append_asked(
         &mut self,
         alloc: Global,
-        arguments: &Arguments,
+        arguments: &Arguments<'_>,
         asked: AskedAddress<'_>,
         output: &mut Vec<u8>,
     ) -> Result<(), AllocError> {

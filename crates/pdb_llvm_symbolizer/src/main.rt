@@ -25,69 +25,71 @@ mod regular_file;
 mod stores;
 mod undecorated;
 
-use anyhow::{Result, bail};
+use anyhow::{Result, anyhow, bail};
 use arguments::{Arguments, read_arguments};
 use bumpalo::Bump;
-use choices::{Choices, read_choices};
+use choices::Choices;
 use files::AskedFiles;
+use folders::unless_memory;
 use given_words::{GivenWords, given_words};
 use help::{HELP, VERSION};
 use lines::{RequestAnswers, write_answers, write_made};
 use pdb_engine::{InputFault, Watched, run};
 use std::fs;
-use std::io::{self, ErrorKind, Read, Write};
+use std::io::{self, Read, Write};
 use std::mem::forget;
 use std::os::unix::fs::FileExt;
 use std::process::ExitCode;
 use std::rt::Files;
-use stores::push_environment_stores;
 
 fn main(rt: HostRuntime) -> Result<ExitCode> {
-    let GivenWords { program, words } = given_words(&rt)?;
-    let choices = read_choices(rt.alloc(), &words)?;
+    let given = given_words(&rt)?;
+    let mut choices = Choices::new(rt.alloc());
+    answer(&rt, &given, &mut choices)
+}
+
+/// Answers what the words choose. Returns the status.
+fn answer<'w>(
+    rt: &HostRuntime,
+    given: &'w GivenWords,
+    choices: &mut Choices<'w>,
+) -> Result<ExitCode> {
+    choices.read(rt.alloc(), given)?;
     if !choices.errors.is_empty() {
-        return refuse(&rt, &choices);
+        return refuse(rt, choices);
     }
     if choices.help {
-        return finish(print!(rt; "{HELP}").is_ok());
+        return finish(print!(rt; "{HELP}"));
     }
     if choices.version {
-        return finish(println!(rt; "pdb_llvm_symbolizer {VERSION}").is_ok());
+        return finish(println!(rt; "pdb_llvm_symbolizer {VERSION}"));
     }
-    tell_hints(&rt, &choices);
-    let mut arguments = match read_arguments(rt.alloc(), program, choices)? {
-        Ok(arguments) => arguments,
-        Err(error) => {
-            eprintln!(rt; "{error}")?;
-            return Ok(ExitCode::from(1));
+    tell_hints(rt, choices);
+    match read_arguments(given.program.as_str(), choices) {
+        Ok(arguments) => answer_arguments(rt, &arguments),
+        Err(refusal) => {
+            eprintln!(rt; "{refusal}")?;
+            Ok(ExitCode::from(1))
         }
-    };
-    push_environment_stores(&rt, &mut arguments.stores)?;
-    let _first = empty_file(&rt)?;
-    let mut reader = Watched::new(rt.stdin());
-    let mut writer = Watched::new(rt.stdout());
-    match answer_requests(&rt, &arguments, &mut reader, &mut writer) {
-        Ok(true) => Ok(ExitCode::SUCCESS),
-        Ok(false) => Ok(ExitCode::from(1)),
-        Err(fault) => bail!("{}", reason(&fault)),
     }
 }
 
-/// Opens a file without bytes, if it can be. Where standard input is closed the first file that is
-/// opened takes its place, and would be read for it.
-///
-/// # Errors
-/// `OutOfMemory`.
-fn empty_file<S: Files>(rt: &S) -> io::Result<Option<S::File>> {
-    match fs::open(rt, "/dev/null") {
-        Ok(file) => Ok(Some(file)),
-        Err(error) if error.kind() == ErrorKind::OutOfMemory => Err(error),
-        Err(_) => Ok(None),
+/// Answers the requests of the arguments. Returns the status.
+fn answer_arguments(rt: &HostRuntime, arguments: &Arguments<'_>) -> Result<ExitCode> {
+    // Where standard input is closed the first file that is opened takes its place, and would be
+    // read for it: this one has no bytes, and stays open.
+    forget(unless_memory(fs::open(rt, "/dev/null"))?);
+    let mut reader = Watched::new(rt.stdin());
+    let mut writer = Watched::new(rt.stdout());
+    match answer_requests(rt, arguments, &mut reader, &mut writer) {
+        Ok(true) => Ok(ExitCode::SUCCESS),
+        Ok(false) => Ok(ExitCode::from(1)),
+        Err(fault) => Err(anyhow!("{}", reason(&fault))),
     }
 }
 
 /// Reports what is wrong with the words, with status 1.
-fn refuse(rt: &impl Eprint, choices: &Choices) -> Result<ExitCode> {
+fn refuse(rt: &impl Eprint, choices: &Choices<'_>) -> Result<ExitCode> {
     for error in &choices.errors {
         eprintln!(rt; "error: {error}")?;
     }
@@ -95,18 +97,17 @@ fn refuse(rt: &impl Eprint, choices: &Choices) -> Result<ExitCode> {
 }
 
 /// The status after a text that was written or not.
-fn finish(is_written: bool) -> Result<ExitCode> {
-    if is_written {
-        Ok(ExitCode::SUCCESS)
-    } else {
-        bail!("standard output can't be written")
+fn finish(written: io::Result<()>) -> Result<ExitCode> {
+    match written {
+        Ok(()) => Ok(ExitCode::SUCCESS),
+        Err(_) => bail!("standard output can't be written"),
     }
 }
 
 /// Warns of folders that aren't those of symbols for Apple's systems.
-fn tell_hints(rt: &impl Eprint, choices: &Choices) {
+fn tell_hints(rt: &impl Eprint, choices: &Choices<'_>) {
     for hint in &choices.dsym_hints {
-        if !hint.as_str().ends_with(".dSYM") {
+        if !hint.ends_with(".dSYM") {
             let why = "must have the '.dSYM' extension";
             let _ = eprintln!(rt; "Warning: invalid dSYM hint: \"{hint}\" ({why}).");
         }
@@ -126,9 +127,15 @@ fn reason(fault: &InputFault) -> &'static str {
 /// Answers the addresses among the arguments, or those of the reader's lines. Returns whether the
 /// file of `--obj` is loaded, if it is given, and all files could be read; else that is reported.
 /// What the files hold is left to the process.
-fn answer_requests<S: Files<File = F> + Eprint + AllocGlobal, F: FileExt + Drop, R: Read, W: Write>(
-    rt: &S,
-    arguments: &Arguments,
+fn answer_requests<
+    'c,
+    S: Files<File = F> + Eprint + AllocGlobal,
+    F: FileExt + Drop,
+    R: Read,
+    W: Write,
+>(
+    rt: &'c S,
+    arguments: &'c Arguments<'c>,
     reader: &mut Watched<R>,
     writer: &mut Watched<W>,
 ) -> Result<bool, InputFault> {
@@ -149,14 +156,14 @@ fn answer_requests<S: Files<File = F> + Eprint + AllocGlobal, F: FileExt + Drop,
 /// could be read. Where standard input can't be read, as where it is closed, it has ended.
 fn answer_by<S: Files<File = F> + Eprint + AllocGlobal, F: FileExt + Drop, R: Read, W: Write>(
     answers: &mut RequestAnswers<'_, S, F>,
-    arguments: &Arguments,
+    arguments: &Arguments<'_>,
     reader: &mut Watched<R>,
     writer: &mut Watched<W>,
 ) -> Result<bool, InputFault> {
     if !load_object(answers, writer)? {
         return Ok(false);
     }
-    let outcome = if arguments.addresses.is_empty() {
+    let outcome = if arguments.choices.inputs.is_empty() {
         run(answers.system.alloc(), answers, reader, writer, u64::MAX)
     } else {
         write_answers(answers, arguments, writer)
@@ -175,12 +182,11 @@ fn load_object<S: Files<File = F> + Eprint + AllocGlobal, F: FileExt + Drop, W: 
     answers: &mut RequestAnswers<'_, S, F>,
     writer: &mut Watched<W>,
 ) -> Result<bool, InputFault> {
-    let system = answers.system;
-    let mut text = Vec::new(system.alloc());
-    match answers.files.ask_object(system, &mut text) {
+    answers.room.clear();
+    match answers.files.ask_object(answers.system, &mut answers.room) {
         Ok(true) => Ok(true),
         Ok(false) => {
-            write_made(Ok(()), &text, writer)?;
+            write_made(Ok(()), &answers.room, writer)?;
             Ok(false)
         }
         Err(_) => Err(InputFault::OutOfMemory),

@@ -93,8 +93,10 @@ impl<'a> Publics<'a> {
 
     /// The RVA of a public symbol.
     pub fn rva_of(&self, public: &PublicName<'a>) -> Option<u32> {
-        let number = usize::from(public.section).checked_sub(1)?;
-        let section = self.sections.get(number)?;
+        if public.section == 0 {
+            return None;
+        }
+        let section = self.sections.get(usize::from(public.section) - 1)?;
         section.virtual_address.checked_add(public.offset)
     }
 
@@ -115,9 +117,6 @@ impl<'a> Publics<'a> {
             return Ok(None);
         };
         let count = names.partition_point(|public| (public.section, public.offset) <= place);
-        match count.checked_sub(1) {
-            None => Ok(None),
-            Some(last) => Ok(names.get(last).copied()),
-        }
+        Ok(names[..count].last().copied())
     }
 }

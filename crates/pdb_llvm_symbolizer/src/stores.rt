@@ -2,8 +2,19 @@
 
 use crate::folders::find_in;
 use std::alloc::AllocError;
-use std::env::{self, VarError};
-use std::rt::{Env, Files};
+use std::rt::Files;
+
+/// The path of a name in a folder that was found.
+fn find_within(
+    rt: &(impl Files + AllocGlobal),
+    found: Result<Option<String>, AllocError>,
+    name: &str,
+) -> Result<Option<String>, AllocError> {
+    match found {
+        Ok(Some(folder)) => find_in(rt, folder.as_str(), name),
+        _ => found,
+    }
+}
 
 /// The path of a file of this identity in a folder: `NAME/IDENTITY/NAME`.
 fn find_below(
@@ -12,18 +23,9 @@ fn find_below(
     name: &str,
     identity: &str,
 ) -> Result<Option<String>, AllocError> {
-    let Some(folder) = find_in(rt, folder, name)? else {
-        return Ok(None);
-    };
-    let Some(folder) = find_in(rt, folder.as_str(), identity)? else {
-        return Ok(None);
-    };
-    find_in(rt, folder.as_str(), name)
-}
-
-/// The first two letters of a name, of which the folders of a store in two levels are called.
-fn first_two(name: &str) -> Option<&str> {
-    name.get(..2)
+    let named = find_in(rt, folder, name);
+    let identified = find_within(rt, named, identity);
+    find_within(rt, identified, name)
 }
 
 /// The path of a file of this name and identity in a store: at `NAME/IDENTITY/NAME`, or in the
@@ -34,15 +36,13 @@ fn find_in_store(
     name: &str,
     identity: &str,
 ) -> Result<Option<String>, AllocError> {
-    if let Some(path) = find_below(rt, store, name, identity)? {
-        return Ok(Some(path));
-    }
-    let Some(letters) = first_two(name) else {
-        return Ok(None);
+    let found = find_below(rt, store, name, identity);
+    let (Ok(None), Some(letters)) = (&found, name.get(..2)) else {
+        return found;
     };
-    match find_in(rt, store, letters)? {
-        Some(folder) => find_below(rt, folder.as_str(), name, identity),
-        None => Ok(None),
+    match find_in(rt, store, letters) {
+        Ok(Some(folder)) => find_below(rt, folder.as_str(), name, identity),
+        found => found,
     }
 }
 
@@ -52,13 +52,14 @@ fn find_in_store(
 /// Where memory ran out.
 pub fn find_in_stores(
     rt: &(impl Files + AllocGlobal),
-    stores: &[String],
+    stores: &[&str],
     name: &str,
     identity: &str,
 ) -> Result<Option<String>, AllocError> {
     for store in stores {
-        if let Some(path) = find_in_store(rt, store.as_str(), name, identity)? {
-            return Ok(Some(path));
+        let found = find_in_store(rt, *store, name, identity);
+        if !matches!(found, Ok(None)) {
+            return found;
         }
     }
     Ok(None)
@@ -76,30 +77,14 @@ fn is_local(element: &str) -> bool {
 
 /// Appends the folders of a search path that are on this machine: between semicolons stand folders,
 /// and after `srv*`, `cache*` or `symsrv*symsrv.dll*` folders and servers with asterisks between.
-fn push_search_path(
-    rt: &impl AllocGlobal,
-    stores: &mut Vec<String>,
-    path: &str,
-) -> Result<(), AllocError> {
-    for element in path.split([';', '*']) {
-        if is_local(element) {
-            stores.push(String::from_str(rt.alloc(), element)?)?;
-        }
-    }
-    Ok(())
-}
-
-/// Appends the folders of the environment variable `_NT_SYMBOL_PATH`.
 ///
 /// # Errors
 /// Where memory ran out.
-pub fn push_environment_stores(
-    rt: &(impl Env + AllocGlobal),
-    stores: &mut Vec<String>,
-) -> Result<(), AllocError> {
-    match env::var(rt, "_NT_SYMBOL_PATH") {
-        Ok(path) => push_search_path(rt, stores, path.as_str()),
-        Err(VarError::OutOfMemory) => Err(AllocError),
-        Err(_) => Ok(()),
+pub fn push_search_path<'p>(stores: &mut Vec<&'p str>, path: &'p str) -> Result<(), AllocError> {
+    for element in path.split([';', '*']) {
+        if is_local(element) {
+            stores.push(element)?;
+        }
     }
+    Ok(())
 }

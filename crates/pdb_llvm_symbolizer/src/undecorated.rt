@@ -24,8 +24,6 @@ pub fn undecorated(alloc: Global, name: &[u8], is_x86: bool) -> Result<Vec<u8>, 
             Demangled::Undecorated => Vec::from_slice(alloc, name),
         };
     }
-    if is_x86 {
-        return Vec::from_slice(alloc, c_name(name));
-    }
+    let name = if is_x86 { c_name(name) } else { name };
     Vec::from_slice(alloc, name)
 }
