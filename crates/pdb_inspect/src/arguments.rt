@@ -191,7 +191,6 @@ enum Extra {
 
 /// A command: its task, its name, what it does, its help, the names of its file and of the words
 /// after that, and its other arguments.
-#[derive(Clone, Copy)]
 struct Described {
     task: Task,
     name: &'static str,
@@ -360,7 +359,7 @@ fn argument_of<'a>(alloc: Global, extra: Extra) -> Arg<'a> {
 }
 
 /// A command with its file and the form of the output.
-fn file_command<'a>(alloc: Global, described: Described) -> Result<Command<'a>, AllocError> {
+fn file_command<'a>(alloc: Global, described: &Described) -> Result<Command<'a>, AllocError> {
     let file = Arg::new(alloc, described.file).required(true).help(
         "The program database: a .pdb file, in a big MSF container",
     );
@@ -372,7 +371,7 @@ fn file_command<'a>(alloc: Global, described: Described) -> Result<Command<'a>, 
 }
 
 /// A command with all of its arguments.
-fn command_of<'a>(alloc: Global, described: Described) -> Result<Command<'a>, AllocError> {
+fn command_of<'a>(alloc: Global, described: &Described) -> Result<Command<'a>, AllocError> {
     let mut command = file_command(alloc, described)?;
     for extra in described.extras {
         command = command.arg(argument_of(alloc, *extra))?;
@@ -395,7 +394,7 @@ fn bare_command<'a>(alloc: Global) -> Result<Command<'a>, AllocError> {
 fn program<'a>(alloc: Global) -> Result<Command<'a>, AllocError> {
     let mut command = bare_command(alloc)?;
     for described in COMMANDS {
-        let inner = command_of(alloc, *described)?;
+        let inner = command_of(alloc, described)?;
         command = command.subcommand(inner)?;
     }
     Ok(command)
@@ -471,7 +470,7 @@ fn wrong_in(alloc: Global, matches: &ArgMatches<'_>) -> Result<Option<String>, A
 /// What the arguments of a command give.
 fn request_of<'a>(
     alloc: Global,
-    described: Described,
+    described: &Described,
     matches: &ArgMatches<'a>,
 ) -> Result<Given<'a>, AllocError> {
     if let Some(text) = wrong_in(alloc, matches)? {
@@ -492,7 +491,7 @@ fn entered<'a>(alloc: Global, matches: &ArgMatches<'a>) -> Result<Given<'a>, All
     if let Some((name, inner)) = matches.subcommand() {
         for described in COMMANDS {
             if described.name == name {
-                return request_of(alloc, *described, inner);
+                return request_of(alloc, described, inner);
             }
         }
     }

@@ -95,20 +95,16 @@ struct Information {
     fits: Option<String>,
 }
 
-/// The GUID of an identity, as it is written.
+/// The text of a GUID. Its first three numbers are stored with their lowest byte first, the others
+/// with their highest.
 fn guid_text(alloc: Global, guid: &[u8; 16]) -> Result<String, AllocError> {
+    let [.., h, i, j, k, l, m, n, o] = *guid;
     let first = word_at(guid, 0);
     let second = half_at(guid, 4);
     let third = half_at(guid, 6);
-    let mut text = String::new(alloc);
-    write!(text, "{first:08X}-{second:04X}-{third:04X}-")?;
-    for (place, byte) in guid[8..].iter().enumerate() {
-        if place == 2 {
-            text.push_str("-")?;
-        }
-        write!(text, "{byte:02X}")?;
-    }
-    Ok(text)
+    let fourth = u16::from_be_bytes([h, i]);
+    let node = u64::from_be_bytes([0, 0, j, k, l, m, n, o]);
+    format!(in alloc; "{first:08X}-{second:04X}-{third:04X}-{fourth:04X}-{node:012X}")
 }
 
 /// The name of a machine.

@@ -24,11 +24,11 @@ mod sources;
 use arguments::{Given, Request, Task, read_arguments};
 use bumpalo::Bump;
 use fault::Fault;
-use loaded::{Needs, load, load_with_names};
+use loaded::{Loaded, load, load_with_names};
 use output::Output;
-use pdb_listings::largest_first;
+use pdb_listings::Size;
 use progress::Progress;
-use sizes::sizes_at;
+use sizes::{needs_of, sizes_of};
 use std::env;
 use std::io::{self, ErrorKind, IsTerminal, Write};
 use std::mem::forget;
@@ -37,33 +37,41 @@ use std::process::ExitCode;
 use std::rt::{Env, Files};
 
 fn main(rt: HostRuntime) -> ExitCode {
-    let words = match given_words(&rt) {
-        Ok(words) => words,
-        Err(error) if error.kind() == ErrorKind::OutOfMemory => {
-            return end(&rt, Err(Fault::OutOfMemory));
-        }
+    match given_words(&rt) {
+        Ok(words) => answer_words(&rt, words.as_slice()),
+        Err(error) if error.kind() == ErrorKind::OutOfMemory => end(&rt, Err(Fault::OutOfMemory)),
         Err(_) => {
             let _ = eprintln!(rt; "error: an argument isn't UTF-8");
-            return ExitCode::from(2);
+            ExitCode::from(2)
         }
-    };
-    match read_arguments(rt.alloc(), words.as_slice()) {
+    }
+}
+
+/// Does what the words ask for, and returns the exit status.
+fn answer_words(rt: &HostRuntime, words: &[String]) -> ExitCode {
+    match read_arguments(rt.alloc(), words) {
         Ok(Given::Request(request)) => {
             let shows = rt.stderr().is_terminal();
             let mut progress = Progress::new(rt.stderr(), shows);
-            let outcome = run(&rt, &request, rt.stdout(), &mut progress);
+            let outcome = run(rt, &request, rt.stdout(), &mut progress);
             progress.end();
-            end(&rt, outcome)
+            end(rt, outcome)
         }
-        Ok(Given::Text(text, 0)) => match rt.stdout().write_all(text.as_str().as_bytes()) {
-            Ok(()) => ExitCode::SUCCESS,
-            Err(_) => end(&rt, Err(Fault::Write)),
-        },
-        Ok(Given::Text(text, status)) => {
-            let _ = rt.stderr().write_all(text.as_str().as_bytes());
-            ExitCode::from(status)
-        }
-        Err(_) => end(&rt, Err(Fault::OutOfMemory)),
+        Ok(Given::Text(text, status)) => write_text(rt, text.as_str(), status),
+        Err(_) => end(rt, Err(Fault::OutOfMemory)),
+    }
+}
+
+/// Writes a text to standard output, or to standard error where the status isn't 0, and returns
+/// the exit status.
+fn write_text(rt: &HostRuntime, text: &str, status: u8) -> ExitCode {
+    if status != 0 {
+        let _ = rt.stderr().write_all(text.as_bytes());
+        return ExitCode::from(status);
+    }
+    match rt.stdout().write_all(text.as_bytes()) {
+        Ok(()) => ExitCode::SUCCESS,
+        Err(_) => end(rt, Err(Fault::Write)),
     }
 }
 
@@ -119,37 +127,58 @@ fn write_task<S: Files + Eprint + AllocGlobal, W: Write + Drop, E: Write>(
 where
     S::File: FileExt,
 {
-    let alloc = rt.alloc();
-    let demangle = request.demangle;
-    let file = request.file;
-    let others = request.others.as_slice();
     match request.task {
-        Task::Functions => {
-            let loaded = load(rt, arena, file, Needs::Modules)?;
-            functions::write(alloc, loaded, demangle, output)?;
-        }
-        Task::Lines => lines::write(alloc, load(rt, arena, file, Needs::Modules)?, output)?,
-        Task::Modules => modules::write(alloc, load(rt, arena, file, Needs::Modules)?, output)?,
         Task::Sources => {
-            let (loaded, names) = load_with_names(rt, arena, file)?;
-            sources::write(rt, loaded, &names, others, output, progress)?;
+            let (loaded, names) = load_with_names(rt, arena, request.file)?;
+            let folders = request.others.as_slice();
+            sources::write(rt, loaded, &names, folders, output, progress)?;
         }
         Task::Info => {
-            let (loaded, facts) = info::load_with_facts(rt, arena, file)?;
+            let (loaded, facts) = info::load_with_facts(rt, arena, request.file)?;
             info::write(rt, loaded, facts, request.other(), output)?;
         }
-        Task::Locate => {
-            let loaded = load(rt, arena, file, Needs::Modules)?;
-            return locate::write(rt, loaded, others, output);
-        }
-        Task::Sizes => {
-            let mut sizes = sizes_at(rt, arena, file, request.sizes, demangle)?;
-            largest_first(&mut sizes)?;
-            sizes::write(&sizes, request.sizes.top, output)?;
-        }
         Task::Diff => write_changes(rt, arena, request, output, progress)?,
+        _ => {
+            let loaded = load(rt, arena, request.file, needs_of(request.sizes.by))?;
+            return write_list(rt, loaded, request, output);
+        }
     }
     Ok(true)
+}
+
+/// Writes the rows of a task that goes over one database alone, and returns whether all of what was
+/// asked for was found.
+fn write_list<S: Eprint + AllocGlobal, W: Write + Drop>(
+    rt: &S,
+    loaded: Loaded<'_>,
+    request: &Request<'_>,
+    output: &mut Output<W>,
+) -> Result<bool, Fault> {
+    let alloc = rt.alloc();
+    match request.task {
+        Task::Lines => lines::write(alloc, loaded, output),
+        Task::Modules => modules::write(alloc, loaded, output),
+        Task::Locate => return locate::write(rt, loaded, request.others.as_slice(), output),
+        Task::Sizes => sizes::write(alloc, loaded, request, output),
+        _ => functions::write(alloc, loaded, request.demangle, output),
+    }?;
+    Ok(true)
+}
+
+/// The sizes of the database of the file at a path, which is shown on a terminal.
+fn sizes_at<'a, S: Files + AllocGlobal, E: Write>(
+    rt: &S,
+    arena: &'a Bump,
+    path: &'a str,
+    request: &Request<'_>,
+    progress: &mut Progress<E>,
+) -> Result<Vec<Size>, Fault>
+where
+    S::File: FileExt,
+{
+    progress.over(path);
+    let loaded = load(rt, arena, path, needs_of(request.sizes.by))?;
+    sizes_of(rt.alloc(), loaded, request.sizes, request.demangle)
 }
 
 /// Writes the change of sizes from a file to the other one, which the arguments give.
@@ -166,10 +195,8 @@ where
     let Some(new) = request.other() else {
         return Ok(());
     };
-    progress.over(request.file);
-    let old = sizes_at(rt, arena, request.file, request.sizes, request.demangle)?;
-    progress.over(new);
-    let new = sizes_at(rt, arena, new, request.sizes, request.demangle)?;
+    let old = sizes_at(rt, arena, request.file, request, progress)?;
+    let new = sizes_at(rt, arena, new, request, progress)?;
     progress.end();
     diff::write(rt.alloc(), &old, &new, request.sizes.top, output)
 }

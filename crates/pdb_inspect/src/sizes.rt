@@ -1,21 +1,18 @@
 //! Bytes by function, source file, folder, module, library or section.
 
-use crate::arguments::{By, SizeOptions};
+use crate::arguments::{By, Request, SizeOptions};
 use crate::contributions::{contributions_of, modules_of, sizes_of_modules};
 use crate::fault::Fault;
-use crate::loaded::{Loaded, Needs, load};
+use crate::loaded::{Loaded, Needs};
 use crate::output::{Output, share_of};
-use bumpalo::Bump;
 use pdb_addresses::{AddressMap, ImageSectionHeader};
 use pdb_listings::{
     Column, Counts, Named, Size, Value, add_bytes, file_sizes, function_sizes, joined_sizes,
-    listed, total_of,
+    largest_first, listed, total_of,
 };
 use pdb_symbols_modules::Module;
 use std::alloc::{AllocError, Global};
 use std::io::Write;
-use std::os::unix::fs::FileExt;
-use std::rt::Files;
 
 const COLUMNS: &[Column] = &[
     Column {
@@ -145,48 +142,33 @@ fn section_name(headers: &[ImageSectionHeader], number: usize) -> &str {
 }
 
 /// The sizes of a database, in the order of their names.
-fn sizes_of(
+///
+/// # Errors
+/// `Load`, `OutOfMemory`.
+pub fn sizes_of(
     alloc: Global,
     loaded: Loaded<'_>,
     options: SizeOptions,
     undecorate: bool,
 ) -> Result<Vec<Size>, Fault> {
     let table = match options.by {
-        By::Function if options.join_padding => by_function_joined(alloc, loaded, undecorate)?,
-        By::Function => by_function(alloc, loaded, undecorate)?,
-        By::File => by_file(alloc, loaded, false)?,
-        By::Folder => by_file(alloc, loaded, true)?,
-        By::Module => by_module(alloc, loaded, false)?,
-        By::Library => by_module(alloc, loaded, true)?,
-        By::Section => by_section(alloc, loaded)?,
-    };
+        By::Function if options.join_padding => by_function_joined(alloc, loaded, undecorate),
+        By::Function => by_function(alloc, loaded, undecorate),
+        By::File => by_file(alloc, loaded, false),
+        By::Folder => by_file(alloc, loaded, true),
+        By::Module => by_module(alloc, loaded, false),
+        By::Library => by_module(alloc, loaded, true),
+        By::Section => by_section(alloc, loaded),
+    }?;
     Ok(listed(alloc, &table)?)
 }
 
-/// What sizes are counted over.
-fn needs_of(by: By) -> Needs {
+/// The parts of a database that sizes are counted over.
+pub fn needs_of(by: By) -> Needs {
     match by {
         By::Function | By::File | By::Folder => Needs::Modules,
         By::Module | By::Library | By::Section => Needs::Tables,
     }
-}
-
-/// The sizes of the database of the file at a path, in the order of their names.
-///
-/// # Errors
-/// Why they can't be counted.
-pub fn sizes_at<'a, S: Files + AllocGlobal>(
-    rt: &S,
-    arena: &'a Bump,
-    path: &'a str,
-    options: SizeOptions,
-    undecorate: bool,
-) -> Result<Vec<Size>, Fault>
-where
-    S::File: FileExt,
-{
-    let loaded = load(rt, arena, path, needs_of(options.by))?;
-    sizes_of(rt.alloc(), loaded, options, undecorate)
 }
 
 /// Writes a row.
@@ -200,12 +182,9 @@ fn write_row<W: Write + Drop>(
     output.row(COLUMNS, &[Value::Number(bytes), share, Value::Text(name)])
 }
 
-/// Writes sizes, the largest first; in lines for people then those that are left out where only
-/// `top` are written, and the total.
-///
-/// # Errors
-/// Why not all are written.
-pub fn write<W: Write + Drop>(
+/// Writes sizes, at most `top` where that is said; in lines for people then those that are left
+/// out, and the total.
+fn write_sizes<W: Write + Drop>(
     sizes: &[Size],
     top: Option<usize>,
     output: &mut Output<W>,
@@ -224,4 +203,19 @@ pub fn write<W: Write + Drop>(
         write_row(total_of(others), total, "(others)", output)?;
     }
     write_row(total, total, "(total)", output)
+}
+
+/// Writes the sizes of a database that are asked for, the largest first.
+///
+/// # Errors
+/// Why not all are written.
+pub fn write<W: Write + Drop>(
+    alloc: Global,
+    loaded: Loaded<'_>,
+    request: &Request<'_>,
+    output: &mut Output<W>,
+) -> Result<(), Fault> {
+    let mut sizes = sizes_of(alloc, loaded, request.sizes, request.demangle)?;
+    largest_first(&mut sizes)?;
+    write_sizes(&sizes, request.sizes.top, output)
 }
