@@ -12,33 +12,50 @@ use Rattle.pdb_addr2line.specs.Printing.{Formatting}
 use Rattle.pdb_addr2line.proofs.HeldModules.{parts_last, parts_of_context}
 use Rattle.pdb_file_views.specs.Views.{Grows, Views, agrees}
 use Rattle.pdb_loading.specs.Held.{Held, kept_infos}
-use Rattle.pdb_loading.specs.LoadedFile.{IsLoadedWith}
+use Rattle.pdb_loading.specs.LoadFaults.{Refuses, load_fault_in_context}
+use Rattle.pdb_loading.specs.LoadedFile.{IsHeld, IsLoadedWith}
+use Rattle.pdb_loading.specs.Loading.{load_fault_with}
+use Rattle.pdb_loading.proofs.LoadingSteps.{kept_loads, parts_load, parts_refuse}
 use Rattle.pdb_loading.specs.ModuleInfos.{KeptInfo}
 use Rattle.pdb_loading.proofs.OnDemand.{modules_of_loaded}
 use Rattle.pdb_symbols_modules.specs.Modules.{modules_of}
 use Rattle.pdb_symbols_modules.specs.Streams.{Streams, streams}
-use Rattle.pdb_addr2line.specs.FailingParts.{Failures, told}
+use Rattle.pdb_addr2line.specs.FailingParts.{Failures, no_failures, told}
 use Rattle.pdb_container.specs.declared.error.Error.TheVariants as causes
 use Rattle.pdb_owners.specs.Frames.{FunctionFrames}
 use Rattle.pdb_resolving.specs.declared.error.Error.{Error}
 use Rattle.pdb_resolving.specs.declared.error.Error.TheVariants as errors
-use Rattle.pdb_resolving.specs.Fault.{Answers, Fault}
+use Rattle.pdb_resolving.specs.Fault.{Answers, Fails, Fault}
 use Rattle.pdb_addr2line.specs.FileFrames.{FindsHeldFrames, found_by}
 use Rattle.pdb_addr2line.specs.Answer.{AnswersNamed, map_with, answer_named, answer_of, answered_in, frames_named}
 use Rattle.pdb_addr2line.specs.FileAnswers.{FileAnswers, IsContextOf, IsKnown, IsOfContents, with_context}
 use Rattle.pdb_addr2line.proofs.OpeningSteps.{context_answers, map_kept}
 
--- a file that was loaded, and its first context
-pub opened : (order : ContributionOrder) (flags : ℕ) (views : Views) (contents : List ℕ) (file : List ℕ) (h : Held) (c : Context (List KeptInfo)) → (agrees views contents ≡ true → file ≡ contents) → IsLoadedWith order file h
+-- a file that is held, and its first context
+pub opened : (order : ContributionOrder) (flags : ℕ) (views : Views) (contents : List ℕ) (file : List ℕ) (h : Held) (c : Context (List KeptInfo)) → (agrees views contents ≡ true → file ≡ contents) → IsHeld file h
     → context_with order h flags ≡ Ok c → IsOfContents (record { views = views; contents = contents; order = order; flags = flags; held = h; context = Some c })
-opened order flags views contents file h c same is made = record {
-  ordered = is.ordered;
-  held_is = λ known. subst (λ (f : List ℕ). IsLoadedWith order f h) (same known) is;
-  context_is = record {
-    parts = parts_of_context order h flags c c.parts made refl;
-    answers = λ known. context_answers flags order contents h c (subst (λ (f : List ℕ). IsLoadedWith order f h) (same known) is) made;
-  };
-}
+opened order flags views contents file h c same is_held made =
+    let parts_are = parts_of_context order h flags c c.parts made refl in
+    let is = parts_load order file h c.parts is_held parts_are in
+    record {
+      ordered = is.ordered;
+      held_is = λ known. subst (λ (f : List ℕ). IsLoadedWith order f h) (same known) is;
+      context_is = record {
+        parts = parts_are;
+        answers = λ known. context_answers flags order contents h c (subst (λ (f : List ℕ). IsLoadedWith order f h) (same known) is) made;
+      };
+    }
+
+-- the fault of its parts is the file's
+pub parts_refused : (order : ContributionOrder) (flags : ℕ) (views : Views) (contents : List ℕ) (file : List ℕ) (h : Held) (e : Error) → (agrees views contents ≡ true → file ≡ contents) → IsHeld file h
+    → Fails e (context_with order h flags) → agrees views contents ≡ true → Refuses (load_fault_in_context e) (load_fault_with order (streams contents))
+parts_refused order flags views contents file h e same is_held failed known =
+    subst (λ (f : List ℕ). Refuses (load_fault_in_context e) (load_fault_with order (streams f))) (same known)
+    (parts_refuse order file h (λ parts. record { provider = h.infos; parts = parts; formatting = formatting_of h flags; lookups = 0; failed = no_failures }) e is_held failed)
+
+-- a file that was opened has no loading fault
+pub known_loads : (f : FileAnswers) → IsOfContents f → IsKnown f → load_fault_with f.order (streams f.contents) ≡ None
+known_loads f is known = kept_loads f.order f.contents f.held (is.held_is known)
 
 context_grown : (f : FileAnswers) (views : Views) (context : Option (Context (List KeptInfo))) → Grows f.views views → IfSome context (IsContextOf f) → IfSome context (IsContextOf (record { views = views; contents = f.contents; order = f.order; flags = f.flags; held = f.held; context = context }))
 context_grown f views None grows is = tt

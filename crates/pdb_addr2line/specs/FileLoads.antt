@@ -25,11 +25,6 @@ IsUnread size source = (source.views.size ≡ size) × (source.views.views ≡ [
 abbrev pub AgreesWith : {F : Type 0} → FileOnDemand F → FileOnDemand F → Type 0
 AgreesWith read source = agrees read.views source.contents.numbers ≡ true
 
--- A file came back that was read no further, and is taken to have the same bytes.
-abbrev pub IsGivenBack : {F : Type 0} → FileOnDemand F → FileOnDemand F → Type 0
-IsGivenBack source back =
-    (back.views ≡ source.views) × (back.contents.numbers ≡ source.contents.numbers)
-
 -- A file that came back was refused: where its bytes agree with what was read, for its loading
 -- fault, unless memory ran out or the file couldn't be read.
 abbrev pub RefusesFile : {F : Type 0} → FileOnDemand F → FileOnDemand F → FileFault → Type 0

@@ -5,8 +5,8 @@ ghost use Rattle.pdb_addr2line.specs.Formatters.{context_with, with_modules};
 ghost use Rattle.pdb_addresses.specs.Addresses.{IsOrdered};
 ghost use Rattle.pdb_addr2line.specs.Answer.{map_with};
 ghost use Rattle.pdb_addr2line.specs.FileAnswers.{IsContextOf, IsKnown, IsUnasked, with_context};
-ghost use Rattle.pdb_addr2line.specs.FileLoads.{AgreesWith, AreInfosOf, IsGivenBack};
-ghost use Rattle.pdb_addr2line.specs.FileLoads.{RefusesFile, fault_of_file};
+ghost use Rattle.pdb_addr2line.specs.FileLoads.{AgreesWith, AreInfosOf, RefusesFile};
+ghost use Rattle.pdb_addr2line.specs.FileLoads.{fault_of_file};
 ghost use Rattle.pdb_addr2line.specs.FileFormatters.{IsFormatterOf};
 ghost use Rattle.pdb_addr2line.specs.Identity.{FailsFileIdentity, HasIdentity};
 ghost use Rattle.pdb_file_views.specs.Views.{Grows};
@@ -22,7 +22,7 @@ use pdb_addresses::AddressMap;
 use pdb_file_views::{FileSource, Wanted};
 use pdb_image::PdbIdentity;
 use pdb_loading::{
-    ContributionOrder, FileFault, KeptModules, LoadFault, LoadedViews, load_on_demand,
+    ContributionOrder, FileFault, HeldViews, KeptModules, LoadFault, hold_on_demand,
     modules_of_views,
 };
 use pdb_names::TypeFormatter;
@@ -113,46 +113,52 @@ pub struct NotLoaded<'a, F: Drop> {
     pub source: FileOnDemand<'a, F>,
 }
 
-/// A symbolizer of a file that was loaded from what was read of it.
+/// A symbolizer of a file that is held from what was read of it. Its first context is made, and with
+/// it the parts that every question goes over: the last step of loading.
 ///
 /// # Errors
-/// The file, where memory runs out.
-#[tactic(auto, using(crate::proofs::FileSteps::opened, crate::proofs::HeldModules::parts_of_context))]
-fn of_loaded<'a, F: Drop>(
+/// `Load` as [`ContextPdbData::make_context_with_order`].
+#[tactic(auto, using(crate::proofs::FileSteps::opened, crate::proofs::FileSteps::known_loads, crate::proofs::FileSteps::parts_refused, crate::proofs::HeldModules::parts_of_context))]
+fn of_held<'a, F: Drop>(
     alloc: Global,
     source: FileOnDemand<'a, F>,
-    loaded: LoadedViews,
+    file: HeldViews,
     flags: TypeFormatterFlags,
-) -> Result<FileSymbolizer<'a, F>, FileOnDemand<'a, F>>
-    requires contents { AgreesWith source source
-        → loaded.loaded.bytes ≡ source.contents.numbers }
-    requires order { loaded.loaded.order ≡ source.order }
-    ensures ok { IfOk result (λ s. (s.views ≡ source.entry.views)
-        × (s.contents ≡ source.entry.contents.numbers)) }
+) -> Result<FileSymbolizer<'a, F>, NotLoaded<'a, F>>
+    requires { AgreesWith source source → file.held ≡ source.contents.numbers }
+    ensures contents { IfOk result (λ s. s.contents ≡ source.entry.contents.numbers) }
     ensures order { IfOk result (λ s. s.order ≡ source.entry.order) }
     ensures flags { IfOk result (λ s. s.flags ≡ flags.bits) }
     ensures unasked { IfOk result (λ s. IsUnasked s) }
-    ensures refused { IfErr result (IsGivenBack source.entry) }
-    ensures same { IfErr result (λ s. s.order ≡ source.entry.order) }
+    ensures same { IfErr result (λ e. e.source.contents.numbers
+        ≡ source.entry.contents.numbers) }
+    ensures loaded { IfOk result (λ s. IsKnown s → fault_of_file source.entry ≡ None) }
+    ensures refused { IfErr result (λ e. RefusesFile source.entry e.source e.fault) }
 {
-    let LoadedViews { loaded, wanted } = loaded;
-    let (file, held) = loaded.into_parts();
+    let HeldViews { held, wanted } = file;
+    let (file, held) = held.into_parts();
     drop(file);
     let Ok(held) = source.arena.try_alloc(ContextPdbData::from_held(held)) else {
-        return Err(source);
+        return Err(NotLoaded {
+            fault: FileFault::Load(LoadFault::OutOfMemory),
+            source,
+        });
     };
     let held: &'a Held = held;
-    let Ok(context) = held.make_context_with_order(alloc, flags, source.order) else {
-        return Err(source);
-    };
-    Ok(FileSymbolizer {
-        source,
-        flags,
-        held,
-        wanted,
-        context: Some(context),
-        rounds: 0,
-    })
+    match held.make_context_with_order(alloc, flags, source.order) {
+        Ok(context) => Ok(FileSymbolizer {
+            source,
+            flags,
+            held,
+            wanted,
+            context: Some(context),
+            rounds: 0,
+        }),
+        Err(error) => Err(NotLoaded {
+            fault: FileFault::Load(LoadFault::from(error)),
+            source,
+        }),
+    }
 }
 
 impl<'a, F: FileExt + Drop> FileSymbolizer<'a, F> {
@@ -202,7 +208,7 @@ impl<'a, F: FileExt + Drop> FileSymbolizer<'a, F> {
             contents,
             order,
         } = source;
-        let loaded = load_on_demand(alloc, &file, &mut views, &contents, order);
+        let held = hold_on_demand(alloc, &file, &mut views, &contents);
         let source = FileOnDemand {
             arena,
             file,
@@ -210,14 +216,8 @@ impl<'a, F: FileExt + Drop> FileSymbolizer<'a, F> {
             contents,
             order,
         };
-        match loaded {
-            Ok(loaded) => match of_loaded(alloc, source, loaded, flags) {
-                Ok(symbolizer) => Ok(symbolizer),
-                Err(source) => Err(NotLoaded {
-                    fault: FileFault::Load(LoadFault::OutOfMemory),
-                    source,
-                }),
-            },
+        match held {
+            Ok(file) => of_held(alloc, source, file, flags),
             Err(fault) => Err(NotLoaded { fault, source }),
         }
     }

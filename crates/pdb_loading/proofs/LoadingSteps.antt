@@ -4,9 +4,10 @@ use Rattle.std.specs.Prelude.{None, Some, IfErr, not}
 use Rattle.pdb_container.specs.declared.error.Error.{Error}
 use Rattle.pdb_container.specs.declared.error.Error.TheVariants as errors
 use Rattle.pdb_container.specs.Fault.{Fault, fault_of, IsOutside, HasRisen, ◌>>=◌, refuse}
-use Rattle.pdb_addresses.specs.Addresses.{IsOrdered, is_ordered}
+use Rattle.pdb_addresses.specs.Addresses.{is_ordered}
 use Rattle.pdb_loading.specs.declared.order.ContributionOrder.{ContributionOrder}
 use Rattle.pdb_frames.specs.Choice.{Parts}
+use Rattle.pdb_frames.specs.Parts.{outcome}
 use Rattle.pdb_symbols_modules.specs.Dbi.{Dbi}
 use Rattle.pdb_symbols_modules.specs.DatabaseCalls.{debug_information}
 use Rattle.pdb_symbols_modules.specs.Shared.{Shared, shared}
@@ -17,7 +18,7 @@ use Rattle.pdb_resolving.specs.Fault as answers
 use Rattle.pdb_loading.specs.declared.load_fault.LoadFault.{LoadFault}
 use Rattle.pdb_loading.specs.declared.load_fault.LoadFault.TheVariants as faults
 use Rattle.pdb_loading.specs.Held.{Held, IsOwn, read_in, given, names_in, parts_held_with, parts_checked}
-use Rattle.pdb_loading.specs.LoadedFile.{IsLoadedWith, AreInOrder}
+use Rattle.pdb_loading.specs.LoadedFile.{AreInOrder, IsHeld, IsLoadedWith, loaded_by}
 use Rattle.pdb_loading.specs.LoadFaults.{load_fault_of, load_fault_in_context, FailsLoading, Refuses}
 use Rattle.pdb_loading.specs.Loading.{Tables, tables, listed, LoadingFault, AddressTableDecreases, lifted, in_loading, Loaded, parts_in, none_or, loaded_with, load_fault_with, DatabaseRead, read_after}
 use Rattle.pdb_loading.specs.ModuleInfos.{answered_at}
@@ -113,22 +114,18 @@ pub list_fails : (order : ContributionOrder) (s : Streams) (e : Error) (dbi : Db
 list_fails order s e dbi read h dbi_is read_is ordered failed =
     rw (opened order s h, behind_tables order (shared s) dbi read dbi_is read_is, in_order order (shared s) dbi read ordered) (loads_on e (listed dbi) _ (list_outside e dbi read failed))
 
--- whether what every question goes over was read
-abbrev checked : Result Parts answers.Fault → Result (Unit {0}) answers.Fault
-checked parts = parts >>= λ p. Ok tt
-
 same_answer : (f e : answers.Fault) → Some f ≡ Some e → f ≡ e
 same_answer f e h = cc
 
-bind_failed : (parts : Result Parts answers.Fault) (e : answers.Fault) → checked parts ≡ Err e → parts ≡ Err e
-bind_failed (Ok p) e h = absurd cc
-bind_failed (Err f) e h = ap (λ (t : answers.Fault). Err t) (same_answer f e (ap fault_in h))
+making_failed : {Y : Type 0} (parts : Result Parts answers.Fault) (make : Parts → Y) (e : answers.Fault) → (parts >>= λ p. Ok (make p)) ≡ Err e → parts ≡ Err e
+making_failed (Ok p) make e h = absurd cc
+making_failed (Err f) make e h = ap (λ (t : answers.Fault). Err t) (same_answer f e (ap fault_in h))
 
-parts_refused : (e : context.Error) (parts : Result Parts answers.Fault) (f : Parts → Result Loaded LoadingFault) → answers.Fails e (checked parts) → FailsLoading (load_fault_in_context e) (in_loading parts >>= f)
-parts_refused contexts.OutOfMemory parts f h = tt
-parts_refused (contexts.PdbError errors.OutOfMemory) parts f h = h
-parts_refused (contexts.FormatError cause) parts f h = absurd h
-parts_refused e parts f h = ap (λ r. in_loading r >>= f) (bind_failed parts (answers.fault_of e) h)
+parts_refused : {Y : Type 0} (e : context.Error) (parts : Result Parts answers.Fault) (make : Parts → Y) (f : Parts → Result Loaded LoadingFault) → answers.Fails e (parts >>= λ p. Ok (make p)) → FailsLoading (load_fault_in_context e) (in_loading parts >>= f)
+parts_refused contexts.OutOfMemory parts make f h = tt
+parts_refused (contexts.PdbError errors.OutOfMemory) parts make f h = h
+parts_refused (contexts.FormatError cause) parts make f h = absurd h
+parts_refused e parts make f h = ap (λ r. in_loading r >>= f) (making_failed parts make (answers.fault_of e) h)
 
 -- ---- what is stored
 
@@ -160,47 +157,12 @@ own_names s h own = elim own.names_are [ inl is ↦ is | inr failed ↦ absurd (
 own_modules : (s : Streams) (h : Held) → IsOwn s (HasRisen 0 0) h → (number : ℕ) → answered_at h.infos number ≡ given s number
 own_modules s h own = λ number. elim (own.modules_are number) [ inl is ↦ is | inr failed ↦ absurd (omega (arith, failed.0)) ]
 
--- what every question goes over that is refused isn't loaded, with its fault
-pub parts_fail : (order : ContributionOrder) (s : Streams) (e : context.Error) (dbi : Dbi) (read : Tables) (h : Held) → s.open_fault ≡ None → debug_information (shared s) ≡ Ok dbi → tables (shared s) dbi ≡ Ok read → is_ordered read.map ≡ true
-    → read_after dbi read ≡ Ok (read_in h) → IsOwn s (HasRisen 0 0) h → answers.Fails e (parts_checked order h) → FailsLoading (load_fault_in_context e) (loaded_with order (shared s))
-parts_fail order s e dbi read h is_open dbi_is tables_are ordered loads own failed =
-    let same = read_is dbi read h loads in
-    rw (opened order s is_open, behind_tables order (shared s) dbi read dbi_is tables_are, behind_list order (shared s) dbi read tt ordered same.2, same.0, same.1, same_parts order s h (own_names s h own)) (parts_refused e (parts_held_with order h) _ failed)
-
--- what every question goes over was read
-there : (parts : Result Parts answers.Fault) (u : Unit {0}) → checked parts ≡ Ok u → (p : Parts) × (parts ≡ Ok p)
-there (Ok p) u h = (p, refl)
-there (Err e) u h = absurd cc
-
-pub loaded_fully : (order : ContributionOrder) (s : Streams) (h : Held) (parts : Parts) → s.open_fault ≡ None → debug_information (shared s) ≡ Ok h.debug_information → tables (shared s) h.debug_information ≡ Ok h.tables
-    → is_ordered h.tables.map ≡ true → listed h.debug_information ≡ Ok tt → h.names ≡ names_in s → parts_held_with order h ≡ Ok parts
-    → loaded_with order (shared s) ≡ Ok (record { debug_information = h.debug_information; tables = h.tables; parts = parts })
-loaded_fully order s h parts is_open dbi_is read_is ordered list_is names_are parts_are =
+-- loading goes on with the parts of what is held
+held_loads : (order : ContributionOrder) (s : Streams) (h : Held) → s.open_fault ≡ None → debug_information (shared s) ≡ Ok h.debug_information → tables (shared s) h.debug_information ≡ Ok h.tables
+    → is_ordered h.tables.map ≡ true → listed h.debug_information ≡ Ok tt → h.names ≡ names_in s → loaded_with order (shared s) ≡ loaded_by order h
+held_loads order s h is_open dbi_is read_is ordered list_is names_are =
     opened order s is_open ∙ behind_tables order (shared s) h.debug_information h.tables dbi_is read_is ∙ behind_list order (shared s) h.debug_information h.tables tt ordered list_is
-    ∙ ap (λ r. r >>= λ (p : Parts). Ok (record { debug_information = h.debug_information; tables = h.tables; parts = p })) (same_parts order s h names_are ∙ ap in_loading parts_are)
-
--- what was stored of a loaded file is the file's
-pub is_kept : (order : ContributionOrder) (file : List ℕ) (dbi : Dbi) (read : Tables) (h : Held) (u : Unit {0}) → (streams file).open_fault ≡ None → debug_information (shared (streams file)) ≡ Ok dbi → tables (shared (streams file)) dbi ≡ Ok read
-    → is_ordered read.map ≡ true → IsOrdered read.map → read_after dbi read ≡ Ok (read_in h) → IsOwn (streams file) (HasRisen 0 0) h → parts_checked order h ≡ Ok u → IsLoadedWith order file h
-is_kept order file dbi read h u is_open dbi_is tables_are ordered is_so loads own was_checked =
-    let s = streams file in
-    let same = read_is dbi read h loads in
-    let parts = there (parts_held_with order h) u was_checked in
-    let dbi_too : debug_information (shared s) ≡ Ok h.debug_information = dbi_is ∙ ap (λ (d : Dbi). Ok d) same.0 in
-    let read_too : tables (shared s) h.debug_information ≡ Ok h.tables = ap (tables (shared s)) (sym same.0) ∙ tables_are ∙ ap (λ (t : Tables). Ok t) same.1 in
-    let names_are = own_names s h own in
-    record {
-      parts = parts.0;
-      loaded_is = loaded_fully order s h parts.0 is_open dbi_too read_too (ap (λ (t : Tables). is_ordered t.map) (sym same.1) ∙ ordered) (ap listed (sym same.0) ∙ same.2) names_are parts.1;
-      parts_are = parts.1;
-      ordered = rw (sym same.1) is_so;
-      names_are = names_are;
-      modules_are = own_modules s h own;
-    }
-
--- the address tables that are held are those that were read
-pub kept_ordered : (dbi : Dbi) (read : Tables) (h : Held) → IsOrdered read.map → read_after dbi read ≡ Ok (read_in h) → IsOrdered h.tables.map
-kept_ordered dbi read h is loads = let same = read_is dbi read h loads in rw (sym same.1) is
+    ∙ ap (λ r. r >>= λ (p : Parts). Ok (record { debug_information = h.debug_information; tables = h.tables; parts = p })) (same_parts order s h names_are)
 
 -- ---- the same after tables that are in order
 
@@ -208,20 +170,21 @@ pub ordered_list_fails : (order : ContributionOrder) (file : List ℕ) (e : Erro
     → (IsOutside e (HasRisen 0 0) ⊎ (read_after dbi read ≡ Err (fault_of e))) → FailsLoading (load_fault_of e) (loaded_with order (shared (streams file)))
 ordered_list_fails order file e dbi read is_open are failed = list_fails order (streams file) e dbi read is_open are.dbi_is are.tables_are are.in_order failed
 
-pub ordered_parts_fail : (order : ContributionOrder) (file : List ℕ) (e : context.Error) (dbi : Dbi) (read : Tables) (h : Held) → (streams file).open_fault ≡ None → AreInOrder (streams file) dbi read
-    → read_after dbi read ≡ Ok (read_in h) → IsOwn (streams file) (HasRisen 0 0) h → answers.Fails e (parts_checked order h) → FailsLoading (load_fault_in_context e) (loaded_with order (shared (streams file)))
-ordered_parts_fail order file e dbi read h is_open are loads own failed = parts_fail order (streams file) e dbi read h is_open are.dbi_is are.tables_are are.in_order loads own failed
-
-pub held_is_kept : (order : ContributionOrder) (file : List ℕ) (dbi : Dbi) (read : Tables) (h : Held) → (streams file).open_fault ≡ None → AreInOrder (streams file) dbi read
-    → read_after dbi read ≡ Ok (read_in h) → IsOwn (streams file) (HasRisen 0 0) h → parts_checked order h ≡ Ok tt → IsLoadedWith order file h
-held_is_kept order file dbi read h is_open are loads own was_checked = is_kept order file dbi read h tt is_open are.dbi_is are.tables_are are.in_order are.ordered loads own was_checked
-
-no_fault : (r : Result Loaded LoadingFault) (l : Loaded) → r ≡ Ok l → fault_in r ≡ None
-no_fault r l h = ap fault_in h
-
--- a file that was loaded has no load fault
-pub kept_loads : (order : ContributionOrder) (file : List ℕ) (h : Held) → IsLoadedWith order file h → load_fault_with order (streams file) ≡ None
-kept_loads order file h is = no_fault (loaded_with order (shared (streams file))) _ is.loaded_is
+-- what is held of a file is the file's
+pub is_held : (file : List ℕ) (dbi : Dbi) (read : Tables) (h : Held) → (streams file).open_fault ≡ None → AreInOrder (streams file) dbi read
+    → read_after dbi read ≡ Ok (read_in h) → IsOwn (streams file) (HasRisen 0 0) h → IsHeld file h
+is_held file dbi read h is_open are loads own =
+    let s = streams file in
+    let same = read_is dbi read h loads in
+    let dbi_too : debug_information (shared s) ≡ Ok h.debug_information = are.dbi_is ∙ ap (λ (d : Dbi). Ok d) same.0 in
+    let read_too : tables (shared s) h.debug_information ≡ Ok h.tables = ap (tables (shared s)) (sym same.0) ∙ are.tables_are ∙ ap (λ (t : Tables). Ok t) same.1 in
+    let names_are = own_names s h own in
+    record {
+      loads = λ order. held_loads order s h is_open dbi_too read_too (ap (λ (t : Tables). is_ordered t.map) (sym same.1) ∙ are.in_order) (ap listed (sym same.0) ∙ same.2) names_are;
+      ordered = rw (sym same.1) are.ordered;
+      names_are = names_are;
+      modules_are = own_modules s h own;
+    }
 
 -- a failed load is a load fault
 pub refuses : (order : ContributionOrder) (e : LoadFault) (s : Streams) → FailsLoading e (loaded_with order (shared s)) → Refuses e (load_fault_with order s)
@@ -229,6 +192,43 @@ refuses order faults.OutOfMemory s h = tt
 refuses order (faults.Pdb contexts.OutOfMemory) s h = h
 refuses order (faults.Pdb (contexts.PdbError errors.OutOfMemory)) s h = h
 refuses order e s h = ap fault_in h
+
+-- ---- the parts of what is held
+
+-- with its parts a file that is held was loaded
+pub parts_load : (order : ContributionOrder) (file : List ℕ) (h : Held) (parts : Parts) → IsHeld file h → parts_held_with order h ≡ Ok parts → IsLoadedWith order file h
+parts_load order file h parts is parts_are = record {
+  parts = parts;
+  loaded_is = is.loads order ∙ ap (λ r. in_loading r >>= λ (p : Parts). Ok (record { debug_information = h.debug_information; tables = h.tables; parts = p })) parts_are;
+  parts_are = parts_are;
+  ordered = is.ordered;
+  names_are = is.names_are;
+  modules_are = is.modules_are;
+}
+
+-- the fault of what is made of the parts refuses the file
+pub parts_refuse : {Y : Type 0} (order : ContributionOrder) (file : List ℕ) (h : Held) (make : Parts → Y) (e : context.Error) → IsHeld file h → answers.Fails e (parts_held_with order h >>= λ p. Ok (make p))
+    → Refuses (load_fault_in_context e) (load_fault_with order (streams file))
+parts_refuse order file h make e is failed =
+    refuses order (load_fault_in_context e) (streams file) (rw (is.loads order) (parts_refused e (parts_held_with order h) make _ failed))
+
+there : (parts : Result Parts answers.Fault) (u : Unit {0}) → outcome parts ≡ Ok u → (p : Parts) × (parts ≡ Ok p)
+there (Ok p) u h = (p, refl)
+there (Err e) u h = absurd cc
+
+-- parts that were checked can be made
+pub parts_checked_load : (order : ContributionOrder) (file : List ℕ) (h : Held) (u : Unit {0}) → IsHeld file h → parts_checked order h ≡ Ok u → IsLoadedWith order file h
+parts_checked_load order file h u is was_checked = let parts = there (parts_held_with order h) u was_checked in parts_load order file h parts.0 is parts.1
+
+pub parts_checked_refuse : (order : ContributionOrder) (file : List ℕ) (h : Held) (e : context.Error) → IsHeld file h → answers.Fails e (parts_checked order h) → Refuses (load_fault_in_context e) (load_fault_with order (streams file))
+parts_checked_refuse order file h e is failed = parts_refuse order file h (λ p. tt) e is failed
+
+no_fault : (r : Result Loaded LoadingFault) (l : Loaded) → r ≡ Ok l → fault_in r ≡ None
+no_fault r l h = ap fault_in h
+
+-- a file that was loaded has no load fault
+pub kept_loads : (order : ContributionOrder) (file : List ℕ) (h : Held) → IsLoadedWith order file h → load_fault_with order (streams file) ≡ None
+kept_loads order file h is = no_fault (loaded_with order (shared (streams file))) _ is.loaded_is
 
 pub all_refused : {A : Type 0} (order : ContributionOrder) (r : Result A LoadFault) (s : Streams) → IfErr r (λ e. FailsLoading e (loaded_with order (shared s))) → IfErr r (λ e. Refuses e (load_fault_with order s))
 all_refused order (Ok x) s h = tt

@@ -5,7 +5,7 @@ ghost use Rattle.std.specs.Prelude.{◌≡◌, true, false, IfOk, OnOk, IfErr, N
 ghost use Rattle.pdb_addresses.specs.Addresses.{IsOrdered, is_ordered};
 ghost use Rattle.pdb_loading.specs.declared.load_fault.LoadFault.TheVariants as faults;
 ghost use Rattle.pdb_loading.specs.declared.order.ContributionOrder.{ContributionOrder as Order};
-ghost use Rattle.pdb_loading.specs.LoadedFile.{AreInOrder, IsLoadedWith};
+ghost use Rattle.pdb_loading.specs.LoadedFile.{AreInOrder, IsHeld, IsLoadedWith};
 ghost use Rattle.pdb_loading.specs.LoadFaults.{FailsLoading, Refuses};
 ghost use Rattle.pdb_loading.specs.Loading.{loaded_with, load_fault_with};
 ghost use Rattle.pdb_symbols_modules.specs.Shared.{shared};
@@ -23,6 +23,45 @@ use std::marker::Model;
 
 /// An open program database over a file's bytes.
 type FileDatabase = PDB<'static, FileSource>;
+
+/// A file whose database is held: all was read that is read before the parts are made. Its value in
+/// contracts is the file's bytes.
+pub struct HeldFile {
+    /// The file's bytes.
+    pub file: FileSource,
+    /// The database, from which contexts are made.
+    pub held: HeldDatabase<'static>,
+}
+
+impl Model for HeldFile {
+    ghost use Rattle.std.specs.Prelude.{List, ℕ};
+    ghost use Rattle.pdb_loading.specs.LoadedFile.{IsHeld};
+
+    ghost Value = { List ℕ };
+
+    ghost view = { λ f. f.file };
+
+    ghost invariant = { λ f. IsHeld f.file f.held };
+}
+
+impl Drop for HeldFile {
+    fn drop(self) {
+        let HeldFile { file, held } = self;
+        drop(file);
+        drop(held);
+    }
+}
+
+impl HeldFile {
+    /// The file's bytes, and its database.
+    pub fn into_parts(self) -> (FileSource, HeldDatabase<'static>)
+        ensures file { result.0 ≡ self }
+        ensures held { IsHeld result.0 result.1 }
+    {
+        let HeldFile { file, held } = self;
+        (file, held)
+    }
+}
 
 /// A file that was loaded: its bytes, the order in which its section contributions have to stand,
 /// and its database, which is held. Its value in contracts is the file's bytes, with this order.
@@ -104,20 +143,15 @@ fn read_in_order(
     }
 }
 
-/// Reads everything from which contexts are made, and checks that a context can be made.
-fn read_held(
-    alloc: Global,
-    mut pdb: FileDatabase,
-    order: ContributionOrder,
-) -> Result<HeldDatabase<'static>, LoadFault>
+/// Reads everything from which contexts are made.
+fn read_held(alloc: Global, mut pdb: FileDatabase) -> Result<HeldDatabase<'static>, LoadFault>
     requires { (streams pdb).open_fault ≡ None }
-    ensures kept { IfOk result (λ held. IsLoadedWith order pdb.entry held) }
-    ensures err { IfErr result
+    ensures held { IfOk result (λ held. IsHeld pdb.entry held) }
+    ensures err { (order : Order) → IfErr result
         (λ e. FailsLoading e (loaded_with order (shared (streams pdb.entry)))) }
 {
     let (debug_information, tables) = read_in_order(alloc, &mut pdb)?;
     let held = hold_after_tables(alloc, pdb, debug_information, tables)?;
-    held.check_parts(alloc, order)?;
     Ok(held)
 }
 
@@ -129,6 +163,23 @@ fn open_file(alloc: Global, file: &FileSource) -> Result<FileDatabase, LoadFault
 {
     let file = file.share(file.limits())?;
     Ok(PDB::open(alloc, file)?)
+}
+
+/// Opens the program database of a file's bytes and holds it: all is read that is read before the
+/// parts are made. Neither the symbol records nor the section contributions are gone over.
+///
+/// # Errors
+/// As [`load_file`], but for the faults of the symbol records and the section contributions.
+pub fn hold_file(alloc: Global, file: FileSource) -> Result<HeldFile, LoadFault>
+    ensures ok { IfOk result (λ f. f ≡ file) }
+    ensures refused { (order : Order)
+        → IfErr result (λ e. Refuses e (load_fault_with order (streams file))) }
+{
+    let pdb = open_file(alloc, &file)?;
+    match read_held(alloc, pdb) {
+        Ok(held) => Ok(HeldFile { file, held }),
+        Err(fault) => Err(fault),
+    }
 }
 
 /// Opens the program database of a file's bytes and loads it: everything that keeps the file from
@@ -149,9 +200,29 @@ pub fn load_file(
     ensures loaded { OnOk result (load_fault_with order (streams file) ≡ None) }
     ensures refused { IfErr result (λ e. Refuses e (load_fault_with order (streams file))) }
 {
-    let pdb = open_file(alloc, &file)?;
-    match read_held(alloc, pdb, order) {
-        Ok(held) => Ok(LoadedFile { file, order, held }),
+    match hold_file(alloc, file) {
+        Ok(file) => check_held(alloc, file, order),
         Err(fault) => Err(fault),
+    }
+}
+
+/// Checks the parts of a file that is held, the last step of loading it.
+///
+/// # Errors
+/// As [`HeldDatabase::check_parts`].
+#[tactic(auto, using(crate::proofs::LoadingSteps::parts_checked_load, crate::proofs::LoadingSteps::parts_checked_refuse))]
+fn check_held(
+    alloc: Global,
+    file: HeldFile,
+    order: ContributionOrder,
+) -> Result<LoadedFile, LoadFault>
+    ensures ok { IfOk result (λ f. (f.bytes ≡ file) × (f.order ≡ order)) }
+    ensures loaded { OnOk result (load_fault_with order (streams file) ≡ None) }
+    ensures refused { IfErr result (λ e. Refuses e (load_fault_with order (streams file))) }
+{
+    let (file, held) = file.into_parts();
+    match held.check_parts(alloc, order) {
+        Ok(()) => Ok(LoadedFile { file, order, held }),
+        Err(error) => Err(LoadFault::from(error)),
     }
 }

@@ -1,21 +1,19 @@
-//! Loading a file that is read on demand: missing bytes are read, and the file is loaded again from
+//! Holding a file that is read on demand: missing bytes are read, and the file is held anew from
 //! those that are there then.
 
-ghost use Rattle.std.specs.Prelude.{◌≡◌, IfErr, IfOk, None, OnOk};
+ghost use Rattle.std.specs.Prelude.{◌≡◌, IfErr, IfOk};
 ghost use Rattle.pdb_container.specs.PrintedFault.{printed_text};
 ghost use Rattle.pdb_file_views.specs.Views.{Grows};
 ghost use Rattle.pdb_loading.specs.FileFaults.{OnLoadFault};
 ghost use Rattle.pdb_loading.specs.FileLoads.{Agree, AreInfos, RefusesFile, RefusesToLoad};
-ghost use Rattle.pdb_loading.specs.FileLoads.{file_fault};
 ghost use Rattle.pdb_loading.specs.declared.load_fault.LoadFault.TheVariants as faults;
+ghost use Rattle.pdb_loading.specs.declared.order.ContributionOrder.{ContributionOrder as Order};
 ghost use Rattle.pdb_loading.specs.LoadFaultText.{file_fault_text};
 
 use crate::file_modules::FileModules;
-use crate::held_database::HeldDatabase;
 use crate::load_fault::LoadFault;
-use crate::loading::{LoadedFile, load_file};
+use crate::loading::{HeldFile, hold_file};
 use crate::module_infos::{KeptModules, collect_modules};
-use crate::order::ContributionOrder;
 use boxcar::tag::Tag;
 use pdb_container::{PrintedFault, Result as ReadResult, kind_name};
 use pdb_file_views::{FileSource, FileViews, Wanted};
@@ -87,68 +85,62 @@ fn read_fault(error: &io::Error) -> FileFault
     }
 }
 
-/// Loads a file from what was read of it. Bytes that it lacks are noted as wanted, and are out of
+/// Holds a file from what was read of it. Bytes that it lacks are noted as wanted, and are out of
 /// memory here.
 ///
 /// # Errors
-/// As [`load_file`].
+/// As [`hold_file`].
 #[tactic(auto, using(crate::proofs::OnDemand::bytes_agree))]
-fn load_views(
+fn hold_views(
     alloc: Global,
     views: &FileViews,
     contents: &Tag,
     wanted: &Wanted,
-    order: ContributionOrder,
-) -> Result<LoadedFile, LoadFault>
+) -> Result<HeldFile, LoadFault>
     ensures ok { Agree views.now contents.now.numbers
-        → IfOk result (λ f. f.bytes ≡ contents.now.numbers) }
-    ensures order { IfOk result (λ f. f.order ≡ order) }
-    ensures loaded { Agree views.now contents.now.numbers
-        → OnOk result (file_fault order contents.now.numbers ≡ None) }
-    ensures refused { Agree views.now contents.now.numbers
+        → IfOk result (λ f. f ≡ contents.now.numbers) }
+    ensures refused { (order : Order) → Agree views.now contents.now.numbers
         → IfErr result (RefusesFile order contents.now.numbers) }
 {
     let Ok(file) = FileSource::of_views(alloc, views, contents, wanted) else {
         return Err(LoadFault::OutOfMemory);
     };
-    load_file(alloc, file, order)
+    hold_file(alloc, file)
 }
 
-/// A file that was loaded from what was read of it.
+/// A file that is held from what was read of it.
 #[derive(Drop)]
-pub struct LoadedViews {
+pub struct HeldViews {
     /// The file.
-    pub loaded: LoadedFile,
+    pub held: HeldFile,
     /// The bytes that its modules lack once they are asked for.
     pub wanted: Wanted,
 }
 
-/// Loads a file that is read on demand. `contents` names the bytes that the clauses speak of: they
-/// hold where these agree with all that was read. Section contributions have to stand in that
-/// order.
+/// Holds a file that is read on demand. `contents` names the bytes that the clauses speak of: they
+/// hold where these agree with all that was read. A fault is the file's in whichever order section
+/// contributions have to stand.
 ///
 /// # Errors
-/// As [`load_file`]; `File` where the file couldn't be read.
-pub fn load_on_demand<F: FileExt>(
+/// As [`hold_file`]; `File` where the file couldn't be read.
+pub fn hold_on_demand<F: FileExt>(
     alloc: Global,
     file: &F,
     views: &mut FileViews,
     contents: &Tag,
-    order: ContributionOrder,
-) -> Result<LoadedViews, FileFault>
+) -> Result<HeldViews, FileFault>
     ensures grows { Grows views.old views.new }
     ensures ok { Agree views.new contents.now.numbers
-        → IfOk result (λ f. f.loaded.bytes ≡ contents.now.numbers) }
-    ensures order { IfOk result (λ f. f.loaded.order ≡ order) }
-    ensures loaded { Agree views.new contents.now.numbers
-        → OnOk result (file_fault order contents.now.numbers ≡ None) }
-    ensures refused { Agree views.new contents.now.numbers
+        → IfOk result (λ f. f.held ≡ contents.now.numbers) }
+    ensures refused { (order : Order) → Agree views.new contents.now.numbers
         → IfErr result (RefusesToLoad order contents.now.numbers) }
 {
     for _ in 0..ROUNDS {
         let wanted = Wanted::new(alloc)?;
-        match load_views(alloc, views, contents, &wanted, order) {
-            Ok(loaded) => return Ok(LoadedViews { loaded, wanted }),
+        match hold_views(alloc, views, contents, &wanted) {
+            // No bytes are missing while parts are made: stream 3, which lists the section
+            // contributions, symbol records and names are whole in memory once a file is held.
+            Ok(held) => return Ok(HeldViews { held, wanted }),
             Err(LoadFault::OutOfMemory) => {}
             Err(fault) => return Err(FileFault::Load(fault)),
         }
