@@ -1,7 +1,7 @@
 -- Gathering where functions begin.
 use Rattle.std.proofs.Common.{◌≡◌, ℕ, ◌+◌, ◌<◌, ◌≤◌, inl, inr, Bool, true, false, ◌||◌, List, [], ◌∷◌, ◌++◌, map, Option, None, Some, length, drop, get_or, eqb, refl, sym, ap, ◌∙◌, append_assoc, arith}
 use Rattle.std.specs.Prelude.{◌==◌, option_map}
-use Rattle.std.specs.List.{dedup, dedup_from}
+use Rattle.std.specs.List.{dedup, dedup_from, list_any}
 use Rattle.std.specs.List.Sorted.{IsSorted, IsPermutation}
 use Rattle.std.specs.Ordering.{nat_cmp}
 use Rattle.std.proofs.lemmas.Bool.{cases_Bool}
@@ -15,11 +15,12 @@ use Rattle.pdb_addresses.specs.declared.rva.Rva.{Rva}
 use Rattle.pdb_addresses.specs.Addresses.{Map, outer_of_place}
 use Rattle.pdb_addresses.specs.Numbers.{image_address}
 use Rattle.pdb_module_data.specs.Procedures.{Procedure}
-use Rattle.pdb_contributions.specs.Publics.{PublicFunction}
+use Rattle.pdb_contributions.specs.Publics.{PublicFunction, joined}
+use Rattle.pdb_contributions.proofs.Joined.{any_joined}
 use Rattle.pdb_symbols_modules.specs.Modules.{Module}
 use Rattle.pdb_answers.specs.KnownModules.{module_data, procedures_in}
 use Rattle.pdb_frames.specs.Scopes.{Scope}
-use Rattle.pdb_addr2line.specs.Starts.{if_any, addresses_of, procedure_starts_from, is_among, IsAscending}
+use Rattle.pdb_addr2line.specs.Starts.{if_any, address_of, addresses_of, public_starts, procedure_starts_from, is_among, AreSame, IsAscending}
 
 -- ---- one address
 
@@ -61,6 +62,25 @@ publics_more m numbers grown total publics index d lt grows so_far =
 pub publics_end : (m : Map) (numbers total : List ℕ) (publics : List PublicFunction) (index : ℕ) → length publics ≤ index → numbers ++ public_addresses m (drop index publics) ≡ total → numbers ≡ total
 publics_end m numbers total publics index past so_far =
     sym (append-nil numbers) ∙ ap (λ (fs : List PublicFunction). numbers ++ public_addresses m fs) (sym (drop_all index publics past)) ∙ so_far
+
+-- no place was gone over
+pub places_start : (m : Map) (numbers : List ℕ) (places : List PdbInternalSectionOffset) → numbers ++ addresses_of m (drop 0 places) ≡ numbers ++ addresses_of m places
+places_start m numbers places = refl
+
+-- one more place
+pub places_more : (m : Map) (numbers grown total : List ℕ) (places : List PdbInternalSectionOffset) (index : ℕ) (d : PdbInternalSectionOffset) → index < length places
+    → grown ≡ numbers ++ if_any (outer_of_place m (get_or places index d).section (get_or places index d).offset)
+    → numbers ++ addresses_of m (drop index places) ≡ total → grown ++ addresses_of m (drop (index + 1) places) ≡ total
+places_more m numbers grown total places index d lt grows so_far =
+    let place = get_or places index d in
+    ap (λ (g : List ℕ). g ++ addresses_of m (drop (index + 1) places)) grows
+    ∙ append_assoc numbers (if_any (outer_of_place m place.section place.offset)) (addresses_of m (drop (index + 1) places))
+    ∙ ap (λ (ps : List PdbInternalSectionOffset). numbers ++ addresses_of m ps) (sym (drop_more places index d lt)) ∙ so_far
+
+-- none is left
+pub places_end : (m : Map) (numbers total : List ℕ) (places : List PdbInternalSectionOffset) (index : ℕ) → length places ≤ index → numbers ++ addresses_of m (drop index places) ≡ total → numbers ≡ total
+places_end m numbers total places index past so_far =
+    sym (append-nil numbers) ∙ ap (λ (ps : List PdbInternalSectionOffset). numbers ++ addresses_of m ps) (sym (drop_all index places past)) ∙ so_far
 
 -- no procedure was gone over
 pub procedures_start : (m : Map) (numbers : List ℕ) (procedures : List Procedure) → numbers ++ procedure_addresses m (drop 0 procedures) ≡ numbers ++ procedure_addresses m procedures
@@ -116,6 +136,44 @@ modules_more m scope numbers grown total entries number lt grows so_far =
 pub modules_end : (m : Map) (scope : ℕ → Scope) (numbers total : List ℕ) (entries : List Module) (number : ℕ) → length entries ≤ number → numbers ++ addresses_from m scope number (drop number entries) ≡ total → numbers ≡ total
 modules_end m scope numbers total entries number past so_far =
     sym (append-nil numbers) ∙ ap (λ (es : List Module). numbers ++ addresses_from m scope number es) (sym (drop_all number entries past)) ∙ so_far
+
+-- ---- numbers among others
+
+either : (a b c : Bool) → ((a || b) || c) ≡ (a || (b || c))
+either true b c = refl
+either false b c = refl
+
+among_both : (xs ys : List ℕ) (n : ℕ) → is_among (xs ++ ys) n ≡ (is_among xs n || is_among ys n)
+among_both [] ys n = refl
+among_both (x ∷ xs) ys n = ap (λ b. (x == n) || b) (among_both xs ys n) ∙ sym (either (x == n) (is_among xs n) (is_among ys n))
+
+-- the address of a place is a number
+abbrev has_address : Map → ℕ → PdbInternalSectionOffset → Bool
+has_address m n p = is_among (address_of m p) n
+
+among_addresses : (m : Map) (n : ℕ) (places : List PdbInternalSectionOffset) → is_among (addresses_of m places) n ≡ list_any (has_address m n) places
+among_addresses m n [] = refl
+among_addresses m n (p ∷ places) = among_both (address_of m p) (addresses_of m places) n ∙ ap (λ b. has_address m n p || b) (among_addresses m n places)
+
+-- the addresses of functions and of places are those of the public list that they are
+pub publics_joined : (m : Map) (list functions : List PublicFunction) (places : List PdbInternalSectionOffset) (one two : List ℕ) → list ≡ joined functions places
+    → one ≡ [] ++ addresses_of m (public_starts functions) → two ≡ one ++ addresses_of m places → AreSame (addresses_of m (public_starts list)) two
+publics_joined m list functions places one two is first second n =
+    ap (λ (xs : List ℕ). is_among xs n) (second ∙ ap (λ (xs : List ℕ). xs ++ addresses_of m places) first)
+    ∙ among_both (addresses_of m (public_starts functions)) (addresses_of m places) n
+    ∙ ap (λ b. b || is_among (addresses_of m places) n) (among_addresses m n (public_starts functions))
+    ∙ ap (λ b. list_any (has_address m n) (public_starts functions) || b) (among_addresses m n places)
+    ∙ sym (any_joined (has_address m n) functions places)
+    ∙ sym (among_addresses m n (public_starts (joined functions places)))
+    ∙ ap (λ (fs : List PublicFunction). is_among (addresses_of m (public_starts fs)) n) (sym is)
+
+-- in ascending order, numbers and others are what the same numbers and the others are
+pub ascending_both : (numbers same both others ascending : List ℕ) → AreSame numbers same → both ≡ same ++ others → IsAscending both ascending → IsAscending (numbers ++ others) ascending
+ascending_both numbers same both others ascending are is up = record {
+  rising = up.rising;
+  same = λ n. up.same n ∙ ap (λ (xs : List ℕ). is_among xs n) is ∙ among_both same others n
+      ∙ ap (λ b. b || is_among others n) (are n) ∙ sym (among_both numbers others n);
+}
 
 -- ---- in order, each once
 

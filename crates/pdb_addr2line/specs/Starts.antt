@@ -89,10 +89,14 @@ Appends result map before after places =
 abbrev pub is_among : List ℕ → ℕ → Bool
 is_among numbers n = list_any (λ m. m == n) numbers
 
+-- the same numbers, in any order and each any number of times
+abbrev pub AreSame : List ℕ → List ℕ → Type 0
+AreSame numbers others = (n : ℕ) → is_among others n ≡ is_among numbers n
+
 -- the same numbers in ascending order, each once
 pub record IsAscending (numbers ascending : List ℕ) : Type 0 where
   pub rising : IsStrictlySortedBy nat_cmp ascending
-  pub same : (n : ℕ) → is_among ascending n ≡ is_among numbers n
+  pub same : AreSame numbers ascending
 
 -- the numbers that are cached, if some are, are the same in ascending order, each once
 abbrev pub AreStarts : List ℕ → Option (List ℕ) → Type 0

@@ -2,13 +2,14 @@
 
 ghost use Rattle.std.specs.Prelude.{◌≡◌, ◌++◌, IfOk, OnOk};
 ghost use Rattle.pdb_addresses.specs.Addresses.{IsOrdered};
-ghost use Rattle.pdb_addr2line.specs.Starts.{Appends, AreKeptStarts, IsAscending, address_of};
+ghost use Rattle.pdb_addr2line.specs.Starts.{Appends, AreKeptStarts, AreSame, IsAscending};
+ghost use Rattle.pdb_addr2line.specs.Starts.{address_of, addresses_of};
 ghost use Rattle.pdb_addr2line.specs.Starts.{all_starts, module_starts, public_starts};
 ghost use Rattle.pdb_addr2line.specs.Starts.{starts_given, starts_of};
 
 use pdb_addresses::{AddressMap, PdbInternalSectionOffset};
 use pdb_answers::{ContextParts, Namer, get_basic_module_info, procedures_in};
-use pdb_contributions::PublicFunction;
+use pdb_contributions::{PublicFunction, PublicList};
 use pdb_module_data::Procedure;
 use pdb_resolving::ModuleProvider;
 use std::alloc::{AllocError, Global};
@@ -33,7 +34,7 @@ fn push_address(
 
 /// Appends the RVAs at which entries of the public list begin, in the order of the entries.
 #[tactic(auto, using(crate::proofs::StartSteps::publics_start, crate::proofs::StartSteps::publics_more, crate::proofs::StartSteps::publics_end))]
-fn push_publics(
+fn push_functions(
     addresses: &mut Vec<u32>,
     address_map: &AddressMap<'_>,
     publics: &[PublicFunction<'_>],
@@ -46,6 +47,40 @@ fn push_publics(
         push_address(addresses, address_map, public.start_offset)?;
     }
     Ok(())
+}
+
+/// Appends the RVAs of places, in their order.
+#[tactic(auto, using(crate::proofs::StartSteps::places_start, crate::proofs::StartSteps::places_more, crate::proofs::StartSteps::places_end))]
+fn push_places(
+    addresses: &mut Vec<u32>,
+    address_map: &AddressMap<'_>,
+    places: &[PdbInternalSectionOffset],
+) -> Result<(), AllocError>
+    requires { IsOrdered address_map.now }
+    ensures { Appends result address_map.now addresses.old addresses.new places.now }
+{
+    for place in places {
+        push_address(addresses, address_map, *place)?;
+    }
+    Ok(())
+}
+
+/// The RVAs at which entries of the public list begin, in any order, and some more than once.
+#[tactic(auto, using(crate::proofs::StartSteps::publics_joined))]
+fn public_addresses(
+    alloc: Global,
+    address_map: &AddressMap<'_>,
+    publics: &PublicList<'_>,
+) -> Result<Vec<u32>, AllocError>
+    requires { IsOrdered address_map.now }
+    ensures { IfOk result (λ v. AreSame (addresses_of address_map.now (public_starts publics.now))
+        v.items) }
+{
+    let (functions, places) = publics.as_slices();
+    let mut addresses = Vec::new(alloc);
+    push_functions(&mut addresses, address_map, functions)?;
+    push_places(&mut addresses, address_map, places)?;
+    Ok(addresses)
 }
 
 /// Appends the RVAs at which procedures begin, in the order of the procedures.
@@ -110,6 +145,7 @@ fn sort_and_dedup(numbers: &mut Vec<u32>)
 }
 
 /// The distinct RVAs at which entries of the public list or procedures begin, in ascending order.
+#[tactic(auto, using(crate::proofs::StartSteps::ascending_both))]
 fn function_starts<P: ModuleProvider>(
     alloc: Global,
     provider: &P,
@@ -119,8 +155,7 @@ fn function_starts<P: ModuleProvider>(
     ensures { IfOk result
         (λ v. IsAscending (starts_given P.provided provider.now parts.now namer.now) v.items) }
 {
-    let mut starts = Vec::new(alloc);
-    push_publics(&mut starts, parts.address_map, parts.publics.as_slice())?;
+    let mut starts = public_addresses(alloc, parts.address_map, &parts.publics)?;
     push_modules(alloc, &mut starts, parts.address_map, provider, namer)?;
     sort_and_dedup(&mut starts);
     Ok(starts)

@@ -89,7 +89,7 @@ fn choose_by<'c, 'a, I: ModuleTables>(
         },
         FunctionKey::Public(_, start) => match parts.publics.over(start.offset, *start) {
             None => None,
-            Some(public) => Some(Chosen::Public(public)),
+            Some(public) => Some(Chosen::Public(public.start_offset, public.name)),
         },
     }
 }

@@ -49,7 +49,7 @@ impl Asked {
                 procedure.symbol_index,
                 procedure.end_symbol_index,
             ),
-            Chosen::Public(public) => Asked::Public(public.start_offset),
+            Chosen::Public(start, _) => Asked::Public(start),
         }
     }
 
@@ -74,7 +74,7 @@ impl Asked {
                     && procedure.symbol_index == symbol
                     && procedure.end_symbol_index == end
             }
-            (Asked::Public(start), Chosen::Public(public)) => public.start_offset == start,
+            (Asked::Public(start), Chosen::Public(place, _)) => place == start,
             _ => false,
         }
     }

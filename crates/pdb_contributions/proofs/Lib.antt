@@ -4,6 +4,7 @@ pub mod FirstEntry
 pub mod Firsts
 pub mod HeldSteps
 pub mod HolderSteps
+pub mod Joined
 pub mod Lookup
 pub mod MergeSteps
 pub mod Missing
@@ -14,4 +15,5 @@ pub mod Order
 pub mod PieceSteps
 pub mod PublicOrder
 pub mod PublicSteps
+pub mod StartOrder
 pub mod UnmergedSteps

@@ -1,20 +1,22 @@
 -- Looking up in a list whose places ascend, by how many of its entries begin at a place or before
 -- it.
-use Rattle.std.proofs.Common.{◌≡◌, ◌≢◌, ℕ, ◌<◌, ◌≤◌, not, get_or, Bool, true, false, cond, List, []}
+use Rattle.std.proofs.Common.{◌≡◌, ℕ, ◌<◌, ◌≤◌, not, get_or, Bool, true, false, List, []}
 use Rattle.std.proofs.Common.{◌∷◌, Option, None, Some, length, zero, suc, refl, sym, ap, ◌∙◌, arith}
 use Rattle.std.proofs.Common.{inl, inr}
-use Rattle.std.specs.Prelude.{slice_get, option_and_then, ◌==◌, if◌then◌else◌}
+use Rattle.std.specs.Prelude.{slice_get, option_and_then, option_map, ◌==◌}
 use Rattle.std.specs.List.{find}
 use Rattle.std.specs.List.Sorted.{IsPartitionPoint, IsPartitionedBy}
-use Rattle.std.proofs.lemmas.Bool.{cases_Bool, cases_lt, eq-eqb, ne_eqb}
+use Rattle.std.proofs.lemmas.Bool.{cases_Bool, cases_lt}
 use Rattle.std.proofs.lemmas.Bool.Decides.{nat_tests}
-use Rattle.std.proofs.lemmas.Option.{slice_get-get_or, slice_get_within}
+use Rattle.std.proofs.lemmas.List.{length-map}
+use Rattle.std.proofs.lemmas.Option.{slice_get-get_or, slice_get-map, slice_get_within}
 use Rattle.pdb_addresses.specs.declared.internal_section_offset.PdbInternalSectionOffset.{
   PdbInternalSectionOffset,
 }
 use Rattle.pdb_contributions.specs.Publics.{PublicFunction, is_before, is_at, is_at_or_before}
 use Rattle.pdb_contributions.specs.Publics.{is_behind, last_at_or_before, public_exactly}
 use Rattle.pdb_contributions.specs.Publics.{next_public, publics_among, Rises, IsSplit, last_of}
+use Rattle.pdb_contributions.specs.Publics.{placeholder, placeholders, if_at, in_section}
 use Rattle.pdb_contributions.proofs.OnePlace.{places_rise}
 
 -- the places of a public list ascend
@@ -73,13 +75,13 @@ front_not_at p f g h b = grind (arith, nat_tests)
 
 -- ---- the only entry that counts
 
-find_none : (test : PublicFunction → Bool) (list : List PublicFunction)
+pub find_none : (test : PublicFunction → Bool) (list : List PublicFunction)
     → ((i : ℕ) (f : PublicFunction) → slice_get list i ≡ Some f → test f ≡ false)
     → find test list ≡ None
 find_none test [] h = refl
 find_none test (f ∷ others) h = rw (h 0 f refl) (find_none test others (λ i g e. h (suc i) g e))
 
-find_is : (test : PublicFunction → Bool) (list : List PublicFunction) (k : ℕ) (f : PublicFunction)
+pub find_is : (test : PublicFunction → Bool) (list : List PublicFunction) (k : ℕ) (f : PublicFunction)
     → slice_get list k ≡ Some f → test f ≡ true
     → ((i : ℕ) (g : PublicFunction) → i < k → slice_get list i ≡ Some g → test g ≡ false)
     → find test list ≡ Some f
@@ -90,13 +92,13 @@ find_is test (g ∷ others) (suc k) f e h before =
     rw (before 0 g (omega arith) refl)
     (find_is test others k f e h (λ i x lt there. before (suc i) x (omega arith) there))
 
-last_none : (list : List PublicFunction) (p : Place)
+pub last_none : (list : List PublicFunction) (p : Place)
     → ((i : ℕ) (f : PublicFunction) → slice_get list i ≡ Some f → is_at_or_before p f ≡ false)
     → last_at_or_before list p ≡ None
 last_none [] p h = refl
 last_none (f ∷ others) p h = rw (last_none others p (λ i g e. h (suc i) g e), h 0 f refl) refl
 
-last_is : (list : List PublicFunction) (p : Place) (k : ℕ) (f : PublicFunction)
+pub last_is : (list : List PublicFunction) (p : Place) (k : ℕ) (f : PublicFunction)
     → slice_get list k ≡ Some f → is_at_or_before p f ≡ true
     → ((i : ℕ) (g : PublicFunction) → k < i → slice_get list i ≡ Some g
     → is_at_or_before p g ≡ false) → last_at_or_before list p ≡ Some f
@@ -112,14 +114,6 @@ last_is (g ∷ others) p (suc k) f e h after =
 
 no_entry : PublicFunction
 no_entry = record { start_offset = record { offset = 0; section = 0 }; name = None }
-
--- an entry, if it is in the section of a place
-abbrev in_section : Place → PublicFunction → Option PublicFunction
-in_section p f = if (f.start_offset).section == p.section then Some f else None
-
--- an entry, if it is at a place
-abbrev if_at : Place → PublicFunction → Option PublicFunction
-if_at p f = if is_at p f then Some f else None
 
 -- all before the last entry of the prefix come before it
 last_at_front : (list : List PublicFunction) (p : Place) (k : ℕ) (f : PublicFunction) → Rises list
@@ -204,65 +198,6 @@ pub next_by_split : (list : List PublicFunction) (p : Place) (n : ℕ) → Rises
     → next_public list p ≡ option_and_then (in_section p) (slice_get list n)
 next_by_split list p n rise split = next_of list p n rise split (slice_get list n) refl
 
--- ---- looking up, by what was found
-
-pub last_found : (list : List PublicFunction) (p : Place) (n : ℕ) (f : PublicFunction) → Rises list
-    → IsSplit list p n → Some f ≡ last_of list n → (f.start_offset).section ≡ p.section
-    → Some f ≡ last_at_or_before list p
-last_found list p n f rise split e here =
-    sym (last_by_split list p n rise split ∙ ap (option_and_then (in_section p)) (sym e)
-    ∙ ap (λ t. cond t (Some f) None) (eq-eqb (f.start_offset).section p.section here))
-
-pub last_other : (list : List PublicFunction) (p : Place) (n : ℕ) (f : PublicFunction) → Rises list
-    → IsSplit list p n → Some f ≡ last_of list n → (f.start_offset).section ≢ p.section
-    → None ≡ last_at_or_before list p
-last_other list p n f rise split e other =
-    sym (last_by_split list p n rise split ∙ ap (option_and_then (in_section p)) (sym e)
-    ∙ ap (λ t. cond t (Some f) None) (ne_eqb (f.start_offset).section p.section other))
-
-pub last_nothing : (list : List PublicFunction) (p : Place) (n : ℕ) → Rises list → IsSplit list p n
-    → None ≡ last_of list n → None ≡ last_at_or_before list p
-last_nothing list p n rise split e =
-    sym (last_by_split list p n rise split ∙ ap (option_and_then (in_section p)) (sym e))
-
-pub next_found : (list : List PublicFunction) (p : Place) (n : ℕ) (f : PublicFunction) → Rises list
-    → IsSplit list p n → Some f ≡ slice_get list n → (f.start_offset).section ≡ p.section
-    → Some f ≡ next_public list p
-next_found list p n f rise split e here =
-    sym (next_by_split list p n rise split ∙ ap (option_and_then (in_section p)) (sym e)
-    ∙ ap (λ t. cond t (Some f) None) (eq-eqb (f.start_offset).section p.section here))
-
-pub next_other : (list : List PublicFunction) (p : Place) (n : ℕ) (f : PublicFunction) → Rises list
-    → IsSplit list p n → Some f ≡ slice_get list n → (f.start_offset).section ≢ p.section
-    → None ≡ next_public list p
-next_other list p n f rise split e other =
-    sym (next_by_split list p n rise split ∙ ap (option_and_then (in_section p)) (sym e)
-    ∙ ap (λ t. cond t (Some f) None) (ne_eqb (f.start_offset).section p.section other))
-
-pub next_nothing : (list : List PublicFunction) (p : Place) (n : ℕ) → Rises list → IsSplit list p n
-    → None ≡ slice_get list n → None ≡ next_public list p
-next_nothing list p n rise split e =
-    sym (next_by_split list p n rise split ∙ ap (option_and_then (in_section p)) (sym e))
-
-pub exactly_found : (list : List PublicFunction) (p : Place) (n : ℕ) (f : PublicFunction)
-    → Rises list → IsSplit list p n → Some f ≡ last_of list n → is_at p f ≡ true
-    → Some f ≡ public_exactly list p
-exactly_found list p n f rise split e here =
-    sym (exactly_by_split list p n rise split ∙ ap (option_and_then (if_at p)) (sym e)
-    ∙ ap (λ t. cond t (Some f) None) here)
-
-pub exactly_other : (list : List PublicFunction) (p : Place) (n : ℕ) (f : PublicFunction)
-    → Rises list → IsSplit list p n → Some f ≡ last_of list n → is_at p f ≡ false
-    → None ≡ public_exactly list p
-exactly_other list p n f rise split e other =
-    sym (exactly_by_split list p n rise split ∙ ap (option_and_then (if_at p)) (sym e)
-    ∙ ap (λ t. cond t (Some f) None) other)
-
-pub exactly_nothing : (list : List PublicFunction) (p : Place) (n : ℕ) → Rises list
-    → IsSplit list p n → None ≡ last_of list n → None ≡ public_exactly list p
-exactly_nothing list p n rise split e =
-    sym (exactly_by_split list p n rise split ∙ ap (option_and_then (if_at p)) (sym e))
-
 -- ---- where the list is split
 
 before_all : (p : Place) (f g : PublicFunction) → is_before f.start_offset g.start_offset ≡ true
@@ -303,6 +238,64 @@ split_of list p n bound at = record {
   back = λ i f le e. not_true (is_before p f.start_offset)
       (ap (λ (g : PublicFunction). not (is_before p g.start_offset)) (sym (at_index list i f e))
       ∙ at.1 i no_entry le (slice_get_within list i f e));
+}
+
+-- ---- places in order
+
+placed_at : (starts : List Place) (i : ℕ) (d : Place) → i < length starts
+    → slice_get (placeholders starts) i ≡ Some (placeholder (get_or starts i d))
+placed_at starts i d lt = slice_get-map placeholder starts i
+    ∙ ap (option_map placeholder) (slice_get-get_or starts i d lt)
+
+-- the placeholder at a place
+pub start_there : (starts : List Place) (n : ℕ) (p : Place) → Some p ≡ slice_get starts n
+    → Some (placeholder p) ≡ slice_get (placeholders starts) n
+start_there starts n p e =
+    ap (option_map placeholder) e ∙ sym (slice_get-map placeholder starts n)
+
+-- past the last place there is none
+pub start_missing : (starts : List Place) (n : ℕ) → None ≡ slice_get starts n
+    → None ≡ slice_get (placeholders starts) n
+start_missing starts n e =
+    ap (option_map placeholder) e ∙ sym (slice_get-map placeholder starts n)
+
+-- of places in order, those that aren't past a place come before the others
+pub starts_first : (starts : List Place) (p : Place) → Rises (placeholders starts)
+    → IsPartitionedBy (λ start. not (is_before p start)) starts
+starts_first starts p rise i j d le lt h = elim (cases_lt i j) [
+  | inl before ↦ before_all p (placeholder (get_or starts i d)) (placeholder (get_or starts j d))
+      (rise.each i j (placeholder (get_or starts i d)) (placeholder (get_or starts j d)) before
+      (placed_at starts i d (omega arith)) (placed_at starts j d lt)) h
+  | inr past ↦ (let same : i ≡ j = omega arith in rw same h)
+]
+
+no_place : Place
+no_place = record { offset = 0; section = 0 }
+
+start_within : (starts : List Place) (i : ℕ) (f : PublicFunction)
+    → slice_get (placeholders starts) i ≡ Some f → i < length starts
+start_within starts i f e =
+    let as_many : length (placeholders starts) ≡ length starts = length-map starts placeholder in
+    omega (arith, slice_get_within (placeholders starts) i f e, as_many)
+
+at_start : (starts : List Place) (i : ℕ) (f : PublicFunction)
+    → slice_get (placeholders starts) i ≡ Some f → placeholder (get_or starts i no_place) ≡ f
+at_start starts i f e =
+    let here = placed_at starts i no_place (start_within starts i f e) in cc
+
+pub starts_split : (starts : List Place) (p : Place) (n : ℕ) → n ≤ length starts
+    → IsPartitionPoint (λ s. not (is_before p s) ≡ true) (λ s. not (is_before p s) ≡ false) starts n
+    → IsSplit (placeholders starts) p n
+starts_split starts p n bound at = record {
+  bound =
+      let as_many : length (placeholders starts) ≡ length starts = length-map starts placeholder in
+      omega (arith, bound, as_many);
+  front = λ i f lt e. not_false (is_before p f.start_offset)
+      (ap (λ (g : PublicFunction). not (is_before p g.start_offset)) (sym (at_start starts i f e))
+      ∙ at.0 i no_place (omega arith) lt);
+  back = λ i f le e. not_true (is_before p f.start_offset)
+      (ap (λ (g : PublicFunction). not (is_before p g.start_offset)) (sym (at_start starts i f e))
+      ∙ at.1 i no_place le (start_within starts i f e));
 }
 
 -- ---- the two entries at a split decide all others

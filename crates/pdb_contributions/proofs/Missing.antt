@@ -1,74 +1,94 @@
--- Placeholders where no public symbol begins are enough: of the entries at one place the others don't
--- count.
+-- The entry that counts at a place, in a list and in two after each other. Placeholders where no
+-- other entry begins are enough: of the entries at one place the others don't count.
 use Rattle.std.proofs.Common.{◌≡◌, ℕ, suc, ◌+◌, ◌<◌, ◌≤◌, Bool, true, false, inl, inr, List}
-use Rattle.std.proofs.Common.{[], ◌∷◌, ◌++◌, Option, None, Some, length, drop, get_or, refl, sym, ap}
+use Rattle.std.proofs.Common.{[], ◌∷◌, ◌++◌, Option, None, Some, length, take, drop, get_or, set}
+use Rattle.std.proofs.Common.{refl, sym, ap}
 use Rattle.std.proofs.Common.{subst, ◌∙◌, append_assoc, arith}
 use Rattle.std.specs.Prelude.{slice_get, is_some, not, ◌&&◌, if◌then◌else◌}
 use Rattle.std.proofs.lemmas.Bool.{cases_Bool}
 use Rattle.std.proofs.lemmas.Bool.Decides.{nat_tests}
-use Rattle.std.proofs.lemmas.List.{append-nil, drop_all, drop_more}
+use Rattle.std.proofs.lemmas.List.{append-nil, drop_all, drop_more, drop-set-lt, length-set}
+use Rattle.std.proofs.lemmas.List.{take_more_set}
 use Rattle.pdb_addresses.specs.declared.internal_section_offset.PdbInternalSectionOffset.{
   PdbInternalSectionOffset,
 }
 use Rattle.pdb_contributions.specs.Publics.{PublicFunction, placeholder, placeholders, is_before}
 use Rattle.pdb_contributions.specs.Publics.{is_named, is_at, preferred, with_entry, publics_among}
 use Rattle.pdb_contributions.specs.Publics.{public_exactly, missing, Rises}
-use Rattle.pdb_contributions.proofs.Lookup.{rises}
 
 abbrev Place : Type 0
 Place = PdbInternalSectionOffset
 
 -- ---- going over the places
 
--- no place was gone over
-pub missing_start : (list : List PublicFunction) (starts : List Place)
-    → missing list (drop 0 starts) ≡ missing list starts
-missing_start list starts = refl
-
-one_kept : (list : List PublicFunction) (p : Place) (places : List Place)
+pub one_kept : (list : List PublicFunction) (p : Place) (places : List Place)
     → is_some (public_exactly list p) ≡ false → missing list (p ∷ places) ≡ p ∷ missing list places
 one_kept list p places none = rw none refl
 
-one_passed : (list : List PublicFunction) (p : Place) (places : List Place)
+pub one_passed : (list : List PublicFunction) (p : Place) (places : List Place)
     → is_some (public_exactly list p) ≡ true → missing list (p ∷ places) ≡ missing list places
 one_passed list p places some = rw some refl
 
--- one more place, at which nothing begins
-pub missing_more : (front total : List Place) (list : List PublicFunction) (starts : List Place)
-    (index : ℕ) (d : Place) → index < length starts
-    → is_some (public_exactly list (get_or starts index d)) ≡ false
-    → front ++ missing list (drop index starts) ≡ total
-    → (front ++ get_or starts index d ∷ []) ++ missing list (drop (index + 1) starts) ≡ total
-missing_more front total list starts index d lt none so_far =
-    append_assoc front (get_or starts index d ∷ []) (missing list (drop (index + 1) starts))
-    ∙ ap (λ (ps : List Place). front ++ ps)
-    (sym (one_kept list (get_or starts index d) (drop (index + 1) starts) none))
-    ∙ ap (λ (ps : List Place). front ++ missing list ps) (sym (drop_more starts index d lt))
-    ∙ so_far
+-- of places, so many stand at the beginning that were kept, and those from an index on are left
+pub record AreKept (list : List PublicFunction) (given places : List Place) (kept index : ℕ) :
+    Type 0 where
+  pub as_many : length places ≡ length given
+  pub bound : kept ≤ index
+  pub so_far : take kept places ++ missing list (drop index places) ≡ missing list given
+
+-- no place was gone over
+pub kept_start : (list : List PublicFunction) (given : List Place) → AreKept list given given 0 0
+kept_start list given = record { as_many = refl; bound = omega arith; so_far = refl }
 
 -- one more place, at which something begins
-pub missing_passed : (front total : List Place) (list : List PublicFunction) (starts : List Place)
-    (index : ℕ) (d : Place) → index < length starts
-    → is_some (public_exactly list (get_or starts index d)) ≡ true
-    → front ++ missing list (drop index starts) ≡ total
-    → front ++ missing list (drop (index + 1) starts) ≡ total
-missing_passed front total list starts index d lt some so_far =
-    ap (λ (ps : List Place). front ++ ps)
-    (sym (one_passed list (get_or starts index d) (drop (index + 1) starts) some))
-    ∙ ap (λ (ps : List Place). front ++ missing list ps) (sym (drop_more starts index d lt))
-    ∙ so_far
+pub kept_passed : (list : List PublicFunction) (given places : List Place) (kept index : ℕ)
+    (d : Place) → index < length given
+    → is_some (public_exactly list (get_or places index d)) ≡ true
+    → AreKept list given places kept index → AreKept list given places kept (index + 1)
+kept_passed list given places kept index d lt some so = record {
+  as_many = so.as_many;
+  bound = omega (arith, so.bound);
+  so_far = ap (λ (ps : List Place). take kept places ++ ps)
+      (sym (one_passed list (get_or places index d) (drop (index + 1) places) some))
+      ∙ ap (λ (ps : List Place). take kept places ++ missing list ps)
+      (sym (drop_more places index d (omega (arith, lt, so.as_many)))) ∙ so.so_far;
+}
+
+-- one more place, at which nothing begins
+pub kept_more : (list : List PublicFunction) (given places : List Place) (kept index : ℕ)
+    (d : Place) → index < length given
+    → is_some (public_exactly list (get_or places index d)) ≡ false
+    → AreKept list given places kept index
+    → AreKept list given (set places kept (get_or places index d)) (kept + 1) (index + 1)
+kept_more list given places kept index d lt none so =
+    let start = get_or places index d in
+    let within : kept < length places = omega (arith, lt, so.as_many, so.bound) in
+    record {
+      as_many = length-set places kept start ∙ so.as_many;
+      bound = omega (arith, so.bound);
+      so_far = ap (λ (ps : List Place). ps ++ missing list (drop (index + 1) (set places kept start)))
+          (take_more_set places kept start within)
+          ∙ ap (λ (ps : List Place). (take kept places ++ start ∷ []) ++ missing list ps)
+          (drop-set-lt (index + 1) places kept start (omega (arith, so.bound)))
+          ∙ append_assoc (take kept places) (start ∷ []) (missing list (drop (index + 1) places))
+          ∙ ap (λ (ps : List Place). take kept places ++ ps)
+          (sym (one_kept list start (drop (index + 1) places) none))
+          ∙ ap (λ (ps : List Place). take kept places ++ missing list ps)
+          (sym (drop_more places index d (omega (arith, lt, so.as_many)))) ∙ so.so_far;
+    }
 
 -- none is left
-pub missing_end : (front total : List Place) (list : List PublicFunction) (starts : List Place)
-    (index : ℕ) → length starts ≤ index → front ++ missing list (drop index starts) ≡ total
-    → front ≡ total
-missing_end front total list starts index past so_far =
-    sym (append-nil front) ∙ ap (λ (ps : List Place). front ++ missing list ps)
-    (sym (drop_all index starts past)) ∙ so_far
+pub kept_end : (list : List PublicFunction) (given places : List Place) (kept index : ℕ)
+    → length given ≤ index → AreKept list given places kept index
+    → take kept places ≡ missing list given
+kept_end list given places kept index past so =
+    sym (append-nil (take kept places))
+    ∙ ap (λ (ps : List Place). take kept places ++ missing list ps)
+    (sym (drop_all index places (omega (arith, past, so.as_many)))) ∙ so.so_far
 
 -- ---- places
 
-at_itself : (f : PublicFunction) → is_at f.start_offset f ≡ true
+pub at_itself : (f : PublicFunction) → is_at f.start_offset f ≡ true
 at_itself f = grind (arith, nat_tests)
 
 before_apart : (p : Place) (f : PublicFunction) → is_before p f.start_offset ≡ true
@@ -79,7 +99,7 @@ further_apart : (p q : Place) (f : PublicFunction) → is_before p q ≡ true
     → is_before q f.start_offset ≡ true → is_at p f ≡ false
 further_apart p q f h h' = grind (arith, nat_tests)
 
-neither_at : (p : Place) (f : PublicFunction) → is_before p f.start_offset ≡ false
+pub neither_at : (p : Place) (f : PublicFunction) → is_before p f.start_offset ≡ false
     → is_before f.start_offset p ≡ false → is_at p f ≡ true
 neither_at p f h h' = grind (arith, nat_tests)
 
@@ -103,7 +123,7 @@ offset_is : (p : Place) (f : PublicFunction) → is_at p f ≡ true
     → (f.start_offset).offset ≡ p.offset
 offset_is p f a = grind (arith, nat_tests)
 
-place_is : (p : Place) (f : PublicFunction) → is_at p f ≡ true → f.start_offset ≡ p
+pub place_is : (p : Place) (f : PublicFunction) → is_at p f ≡ true → f.start_offset ≡ p
 place_is p f a = let s = section_is p f a in let o = offset_is p f a in
     λ i. record { offset = o i; section = s i }
 
@@ -139,7 +159,7 @@ of_three a b c = elim (cases_Bool (is_named a)) [
   ]
 ]
 
-abbrev or_preferred : PublicFunction → Option PublicFunction → PublicFunction
+abbrev pub or_preferred : PublicFunction → Option PublicFunction → PublicFunction
 or_preferred f None = f
 or_preferred f (Some other) = preferred f other
 
@@ -150,15 +170,15 @@ or_of_three f x (Some other) = of_three f x other
 
 -- ---- the entry that counts at a place
 
-abbrev chosen : Place → List PublicFunction → Option PublicFunction
+abbrev pub chosen : Place → List PublicFunction → Option PublicFunction
 chosen p [] = None
 chosen p (f ∷ fs) = if is_at p f then Some (or_preferred f (chosen p fs)) else chosen p fs
 
-on : (p : Place) (f : PublicFunction) (fs : List PublicFunction) → is_at p f ≡ true
+pub on : (p : Place) (f : PublicFunction) (fs : List PublicFunction) → is_at p f ≡ true
     → chosen p (f ∷ fs) ≡ Some (or_preferred f (chosen p fs))
 on p f fs a = rw a refl
 
-off : (p : Place) (f : PublicFunction) (fs : List PublicFunction) → is_at p f ≡ false
+pub off : (p : Place) (f : PublicFunction) (fs : List PublicFunction) → is_at p f ≡ false
     → chosen p (f ∷ fs) ≡ chosen p fs
 off p f fs a = rw a refl
 
@@ -217,24 +237,24 @@ put p f (x ∷ xs) = elim (cases_Bool (is_before f.start_offset x.start_offset))
 ]
 
 -- what counts in the public list counts in the list of all
-in_public_list : (p : Place) (xs : List PublicFunction) → chosen p (publics_among xs) ≡ chosen p xs
+pub in_public_list : (p : Place) (xs : List PublicFunction) → chosen p (publics_among xs) ≡ chosen p xs
 in_public_list p [] = refl
 in_public_list p (f ∷ xs) = put p f (publics_among xs)
     ∙ more p f (publics_among xs) xs (in_public_list p xs)
 
 -- ---- one list after another
 
-abbrev combined : Option PublicFunction → Option PublicFunction → Option PublicFunction
+abbrev pub combined : Option PublicFunction → Option PublicFunction → Option PublicFunction
 combined None o = o
 combined (Some f) o = Some (or_preferred f o)
 
-join : (f : PublicFunction) (c d : Option PublicFunction)
+pub join : (f : PublicFunction) (c d : Option PublicFunction)
     → Some (or_preferred f (combined c d)) ≡ combined (Some (or_preferred f c)) d
 join f None d = refl
 join f (Some a) None = refl
 join f (Some a) (Some b) = ap (λ (o : PublicFunction). Some o) (sym (of_three f a b))
 
-both : (p : Place) (xs ys : List PublicFunction)
+pub both : (p : Place) (xs ys : List PublicFunction)
     → chosen p (xs ++ ys) ≡ combined (chosen p xs) (chosen p ys)
 both p [] ys = refl
 both p (x ∷ xs) ys = elim (cases_Bool (is_at p x)) [
@@ -248,15 +268,15 @@ both p (x ∷ xs) ys = elim (cases_Bool (is_at p x)) [
 
 -- ---- placeholders
 
-abbrev Unnamed : Option PublicFunction → Type 0
+abbrev pub Unnamed : Option PublicFunction → Type 0
 Unnamed None = Unit {0}
 Unnamed (Some f) = is_named f ≡ false
 
-keeps : (f : PublicFunction) (o : Option PublicFunction) → Unnamed o → or_preferred f o ≡ f
+pub keeps : (f : PublicFunction) (o : Option PublicFunction) → Unnamed o → or_preferred f o ≡ f
 keeps f None u = refl
 keeps f (Some other) u = plain_second f other u
 
-unnamed : (p : Place) (places : List Place) → Unnamed (chosen p (placeholders places))
+pub unnamed : (p : Place) (places : List Place) → Unnamed (chosen p (placeholders places))
 unnamed p [] = tt
 unnamed p (s ∷ places) = elim (cases_Bool (is_at p (placeholder s))) [
   | inl a ↦ subst Unnamed
@@ -265,7 +285,7 @@ unnamed p (s ∷ places) = elim (cases_Bool (is_at p (placeholder s))) [
   | inr a ↦ subst Unnamed (sym (off p (placeholder s) (placeholders places) a)) (unnamed p places)
 ]
 
-is_there : (p : Place) (list : List PublicFunction)
+pub is_there : (p : Place) (list : List PublicFunction)
     → is_some (public_exactly list p) ≡ is_some (chosen p list)
 is_there p [] = refl
 is_there p (f ∷ list) = elim (cases_Bool (is_at p f)) [
@@ -296,7 +316,7 @@ where_none p list (s ∷ places) none = elim (cases_Bool (is_some (public_exactl
       (where_none p list places none)
 ]
 
-enough_by : (p : Place) (list : List PublicFunction) (places : List Place)
+pub enough_by : (p : Place) (list : List PublicFunction) (places : List Place)
     (o : Option PublicFunction) → chosen p list ≡ o
     → combined o (chosen p (placeholders (missing list places)))
     ≡ combined o (chosen p (placeholders places))
@@ -307,7 +327,7 @@ enough_by p list places (Some f) e = ap (λ (x : PublicFunction). Some x)
 
 -- ---- lists in order
 
-tail : (x : PublicFunction) (xs : List PublicFunction) → Rises (x ∷ xs) → Rises xs
+pub tail : (x : PublicFunction) (xs : List PublicFunction) → Rises (x ∷ xs) → Rises xs
 tail x xs up = record {
   each = λ i j a b lt at at'. up.each (suc i) (suc j) a b (omega arith) at at';
 }
@@ -320,12 +340,12 @@ gone p (x ∷ xs) apart = off p x xs (apart 0 x refl)
     ∙ gone p xs (λ j b e. apart (suc j) b e)
 
 -- nothing after the first entry is at its place
-rest_gone : (p : Place) (x : PublicFunction) (xs : List PublicFunction) → Rises (x ∷ xs)
+pub rest_gone : (p : Place) (x : PublicFunction) (xs : List PublicFunction) → Rises (x ∷ xs)
     → is_at p x ≡ true → chosen p xs ≡ None
 rest_gone p x xs up a = gone p xs
     (λ j b e. after_apart p x b a (up.each 0 (suc j) x b (omega arith) refl e))
 
-first_is : (x : PublicFunction) (xs : List PublicFunction) → Rises (x ∷ xs)
+pub first_is : (x : PublicFunction) (xs : List PublicFunction) → Rises (x ∷ xs)
     → chosen x.start_offset (x ∷ xs) ≡ Some x
 first_is x xs up = on x.start_offset x xs (at_itself x)
     ∙ ap (λ (o : Option PublicFunction). Some (or_preferred x o))
@@ -390,41 +410,3 @@ alike_same (x ∷ xs) (y ∷ ys) up up' same =
     ap (λ (f : PublicFunction). f ∷ xs) is
     ∙ ap (λ (fs : List PublicFunction). y ∷ fs)
     (alike_same xs ys (tail x xs up) (tail y ys up') (rest_same x xs y ys up up' same is))
-
--- ---- the public list
-
-enough_at : (given ends : List PublicFunction) (places : List Place) (p : Place)
-    → chosen p ((publics_among given ++ placeholders (missing (publics_among given) places)) ++ ends)
-    ≡ chosen p (given ++ placeholders places ++ ends)
-enough_at given ends places p =
-    let list = publics_among given in
-    let few = placeholders (missing list places) in
-    let all = placeholders places in
-    let front : chosen p (list ++ few) ≡ chosen p (given ++ all) =
-    both p list few ∙ enough_by p list places (chosen p list) refl
-    ∙ ap (λ (o : Option PublicFunction). combined o (chosen p all)) (in_public_list p given)
-    ∙ sym (both p given all) in
-    both p (list ++ few) ends
-    ∙ ap (λ (o : Option PublicFunction). combined o (chosen p ends)) front
-    ∙ sym (both p (given ++ all) ends)
-
-enough : (given ends : List PublicFunction) (places : List Place)
-    → publics_among
-    ((publics_among given ++ placeholders (missing (publics_among given) places)) ++ ends)
-    ≡ publics_among (given ++ placeholders places ++ ends)
-enough given ends places =
-    let few = (publics_among given ++ placeholders (missing (publics_among given) places)) ++ ends in
-    let all = given ++ placeholders places ++ ends in
-    alike_same (publics_among few) (publics_among all) (rises few) (rises all)
-    (λ p. in_public_list p few ∙ enough_at given ends places p ∙ sym (in_public_list p all))
-
--- the public list, with placeholders only where no public symbol begins
-pub all_stand : (given list few whole final ends : List PublicFunction) (places : List Place)
-    → list ≡ publics_among given → few ≡ list ++ placeholders (missing list places)
-    → whole ≡ few ++ ends → final ≡ publics_among whole
-    → final ≡ publics_among (given ++ placeholders places ++ ends)
-all_stand given list few whole final ends places e f g h =
-    h ∙ ap (λ (fs : List PublicFunction). publics_among fs)
-    (g ∙ ap (λ (fs : List PublicFunction). fs ++ ends) (f
-    ∙ ap (λ (fs : List PublicFunction). fs ++ placeholders (missing fs places)) e))
-    ∙ enough given ends places

@@ -187,12 +187,12 @@ module _ {X : Type 0} (Q N : X → X → Ordering) where
 same_number : (x y : ℕ) → nat_cmp x y ≡ Equal → x ≡ y
 same_number x y e = ranked x y Equal (sym e)
 
-both_equal : (r s : Ordering) → ordering_then r s ≡ Equal → (r ≡ Equal) × (s ≡ Equal)
+pub both_equal : (r s : Ordering) → ordering_then r s ≡ Equal → (r ≡ Equal) × (s ≡ Equal)
 both_equal Less s e = absurd cc
 both_equal Equal s e = (refl, e)
 both_equal Greater s e = absurd cc
 
-same_place : (p q : PdbInternalSectionOffset)
+pub same_place : (p q : PdbInternalSectionOffset)
     → ordering_then (nat_cmp p.section q.section) (nat_cmp p.offset q.offset) ≡ Equal → p ≡ q
 same_place p q e =
     let both = both_equal (nat_cmp p.section q.section) (nat_cmp p.offset q.offset) e in

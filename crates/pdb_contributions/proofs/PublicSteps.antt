@@ -8,9 +8,6 @@ use Rattle.std.proofs.lemmas.List.{append-nil, drop_more, drop_all}
 use Rattle.pdb_container.specs.Fault.{Fault, ◌>>=◌}
 use Rattle.pdb_container.specs.Listing.{Listing, ending, before, whole_with}
 use Rattle.pdb_addresses.specs.declared.sections.ImageSectionHeader.{ImageSectionHeader}
-use Rattle.pdb_addresses.specs.declared.internal_section_offset.PdbInternalSectionOffset.{
-  PdbInternalSectionOffset,
-}
 use Rattle.pdb_addresses.specs.Sections.{may_execute}
 use Rattle.pdb_symbol_records.specs.declared.symbol_data.SeparatedCodeSymbol.{SeparatedCodeSymbol}
 use Rattle.pdb_symbol_records.specs.Forms as forms
@@ -21,7 +18,7 @@ use Rattle.pdb_symbol_records.specs.Symbols.{Symbol, kind_of, payload_of}
 use Rattle.pdb_symbol_records.specs.Records.{symbol_form_of, form_of, as_form, end_form}
 use Rattle.pdb_symbol_records.specs.Records.{procedure_symbol_at, thunk_of, separated_code_of}
 use Rattle.pdb_symbol_records.specs.Records.{inline_site_of}
-use Rattle.pdb_contributions.specs.Publics.{PublicFunction, placeholder, placeholders, section_end}
+use Rattle.pdb_contributions.specs.Publics.{PublicFunction, section_end}
 use Rattle.pdb_contributions.specs.Publics.{section_ends_from, section_ends, as_public}
 use Rattle.pdb_contributions.specs.Publics.{entry_of_public, entries_of_symbols, entries_read}
 use Rattle.pdb_contributions.specs.Publics.{are_whole}
@@ -159,33 +156,6 @@ whole_end l total end so_far = sym so_far ∙ ap are_whole end
 pub whole_fault : (l : Listing Symbol) (total : Result (Unit {0}) Fault) (e : Fault)
     → l ≡ ending (Some e) → are_whole l ≡ total → total ≡ Err e
 whole_fault l total e end so_far = sym so_far ∙ ap are_whole end
-
--- ---- placeholders
-
--- no place was gone over
-pub placed_start : (front : List PublicFunction) (starts : List PdbInternalSectionOffset)
-    → front ++ placeholders (drop 0 starts) ≡ front ++ placeholders starts
-placed_start front starts = refl
-
--- one more place
-pub placed_more : (front total : List PublicFunction) (starts : List PdbInternalSectionOffset)
-    (index : ℕ) (d : PdbInternalSectionOffset) → index < length starts
-    → front ++ placeholders (drop index starts) ≡ total
-    → (front ++ placeholder (get_or starts index d) ∷ [])
-    ++ placeholders (drop (index + 1) starts) ≡ total
-placed_more front total starts index d lt so_far =
-    append_assoc front (placeholder (get_or starts index d) ∷ [])
-    (placeholders (drop (index + 1) starts))
-    ∙ ap (λ (ps : List PdbInternalSectionOffset). front ++ placeholders ps)
-    (sym (drop_more starts index d lt)) ∙ so_far
-
--- none is left
-pub placed_end : (front total : List PublicFunction) (starts : List PdbInternalSectionOffset)
-    (index : ℕ) → length starts ≤ index → front ++ placeholders (drop index starts) ≡ total
-    → front ≡ total
-placed_end front total starts index past so_far =
-    sym (append-nil front) ∙ ap (λ (ps : List PdbInternalSectionOffset). front ++ placeholders ps)
-    (sym (drop_all index starts past)) ∙ so_far
 
 -- ---- the ends of sections
 

@@ -183,9 +183,13 @@ missing list [] = []
 missing list (p ∷ places) =
     if is_some (public_exactly list p) then missing list places else p ∷ missing list places
 
--- a list with placeholders after it at the places at which none of its entries begins
-abbrev pub with_missing : List PublicFunction → List PdbInternalSectionOffset → List PublicFunction
-with_missing list places = list ++ placeholders (missing list places)
+-- an entry, if it is at a place
+abbrev pub if_at : PdbInternalSectionOffset → PublicFunction → Option PublicFunction
+if_at p f = if is_at p f then Some f else None
+
+-- an entry, if it is in the section of a place
+abbrev pub in_section : PdbInternalSectionOffset → PublicFunction → Option PublicFunction
+in_section p f = if (f.start_offset).section == p.section then Some f else None
 
 -- ---- looking up in order
 
@@ -208,3 +212,40 @@ pub record IsSplit (list : List PublicFunction) (p : PdbInternalSectionOffset) (
 abbrev pub last_of : List PublicFunction → ℕ → Option PublicFunction
 last_of list zero = None
 last_of list (suc number) = slice_get list number
+
+-- ---- the public list as it is held: functions, and other places at which functions may begin
+
+-- functions, and placeholders at places, as one public list
+abbrev pub joined : List PublicFunction → List PdbInternalSectionOffset → List PublicFunction
+joined functions places = publics_among (functions ++ placeholders places)
+
+-- functions and places, each in order and one a place; no function begins at one of the places
+pub record StandApart (functions : List PublicFunction) (places : List PdbInternalSectionOffset) :
+    Type 0 where
+  pub functions_rise : Rises functions
+  pub places_rise : Rises (placeholders places)
+  pub apart : (p : PdbInternalSectionOffset) → is_some (public_exactly functions p) ≡ true
+      → is_some (public_exactly (placeholders places) p) ≡ false
+
+-- of two entries that may be there, the second one if it is the better one
+abbrev pub better_of : (PublicFunction → PublicFunction → Bool) → Option PublicFunction
+    → Option PublicFunction → Option PublicFunction
+better_of better None other = other
+better_of better (Some f) None = Some f
+better_of better (Some f) (Some g) = if better g f then Some g else Some f
+
+-- an entry begins before another one
+abbrev pub begins_before : PublicFunction → PublicFunction → Bool
+begins_before f g = is_before f.start_offset g.start_offset
+
+-- an entry begins after another one
+abbrev pub begins_after : PublicFunction → PublicFunction → Bool
+begins_after f g = is_before g.start_offset f.start_offset
+
+-- the first of two entries that may be there
+abbrev pub first_of_two : Option PublicFunction → Option PublicFunction → Option PublicFunction
+first_of_two = better_of begins_before
+
+-- the last of two entries that may be there
+abbrev pub last_of_two : Option PublicFunction → Option PublicFunction → Option PublicFunction
+last_of_two = better_of begins_after

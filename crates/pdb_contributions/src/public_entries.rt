@@ -2,7 +2,7 @@
 
 ghost use Rattle.std.specs.Prelude.{◌≡◌, ◌++◌, OnOk, option_map};
 ghost use Rattle.pdb_container.specs.Fault.{Gives, Parses};
-ghost use Rattle.pdb_contributions.specs.Publics.{as_public, entry_of_symbol, placeholders};
+ghost use Rattle.pdb_contributions.specs.Publics.{as_public, entry_of_symbol};
 ghost use Rattle.pdb_contributions.specs.Publics.{section_ends, are_whole, entries_read};
 ghost use Rattle.pdb_symbol_records.specs.Forms.{public_form};
 ghost use Rattle.pdb_symbol_records.specs.Iteration.{symbols_left};
@@ -105,23 +105,6 @@ pub fn check_symbols(mut symbols: SymbolIter<'_>) -> Result<()>
     ensures { Parses (λ _. tt) result (are_whole (symbols_left symbols.entry)) }
 {
     while symbols.next()?.is_some() {}
-    Ok(())
-}
-
-/// Appends placeholders at these places.
-#[tactic(auto, using(crate::proofs::PublicSteps::placed_start, crate::proofs::PublicSteps::placed_more, crate::proofs::PublicSteps::placed_end))]
-pub(crate) fn push_placeholders(
-    functions: &mut Vec<PublicFunction<'_>>,
-    starts: &[PdbInternalSectionOffset],
-) -> std::result::Result<(), AllocError>
-    ensures { OnOk result (functions.new.items ≡ functions.old.items ++ placeholders starts.now) }
-{
-    for start in starts {
-        functions.push(PublicFunction {
-            start_offset: *start,
-            name: None,
-        })?;
-    }
     Ok(())
 }
 

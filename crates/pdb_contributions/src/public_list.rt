@@ -1,36 +1,42 @@
 //! The public list in order, and searches in it.
 
-ghost use Rattle.std.specs.Prelude.{◌≡◌, IfOk, OnOk, is_some, length, option_map, slice_get};
-ghost use Rattle.std.specs.Prelude.{true, false, ℕ, ◌<◌, ◌≤◌, Some};
-ghost use Rattle.pdb_contributions.specs.Publics.{public_list, publics_among, with_missing};
+ghost use Rattle.std.specs.Prelude.{◌≡◌, IfOk, OnOk, is_some, length, slice_get};
+ghost use Rattle.std.specs.Prelude.{true, false, ℕ, ◌<◌, ◌≤◌, Some, option_and_then};
+ghost use Rattle.pdb_contributions.specs.Publics.{public_list, publics_among, placeholders};
 ghost use Rattle.pdb_contributions.specs.Publics.{missing, public_exactly, public_over, next_public};
 ghost use Rattle.pdb_contributions.specs.Publics.{is_at as at_place, is_before as comes_before};
-ghost use Rattle.pdb_contributions.specs.Publics.{last_at_or_before as last_before};
+ghost use Rattle.pdb_contributions.specs.Publics.{last_at_or_before as last_before, joined};
 ghost use Rattle.pdb_contributions.specs.Publics.{last_of as last_of_list, Rises, IsSplit};
+ghost use Rattle.pdb_contributions.specs.Publics.{if_at as only_at, in_section as only_in_section};
+ghost use Rattle.pdb_contributions.specs.Publics.{first_of_two, last_of_two};
 
-use crate::public_entries::{PublicFunction, push_placeholders, push_section_ends};
+use crate::public_entries::{PublicFunction, push_section_ends};
 use pdb_addresses::{ImageSectionHeader, PdbInternalSectionOffset};
-use std::alloc::{AllocError, Global};
+use std::alloc::AllocError;
 use std::marker::Model;
 
 /// The public list: public symbols, and placeholders at the starts of contributions and the ends of
 /// sections, by their places, one entry a place.
 #[derive(Debug, Drop)]
 pub struct PublicList<'s> {
+    /// Public symbols and ends of sections, by their places, one entry a place.
     functions: Vec<PublicFunction<'s>>,
+    /// The other starts of contributions in order, each once: no entry of `functions` begins there.
+    /// So a placeholder takes 8 bytes, and not 24.
+    starts: Vec<PdbInternalSectionOffset>,
 }
 
 impl<'s> Model for PublicList<'s> {
     ghost use Rattle.std.specs.Prelude.{List};
     ghost use Rattle.pdb_contributions.specs.Publics as publics;
-    ghost use Rattle.pdb_contributions.specs.Publics.{Rises};
+    ghost use Rattle.pdb_contributions.specs.Publics.{StandApart, joined};
 
     ghost Value = { List publics.PublicFunction };
 
-    ghost view = { λ l. l.functions.items };
+    ghost view = { λ l. joined l.functions.items l.starts.items };
 
-    // Places ascend.
-    ghost invariant = { λ l. Rises l.functions.items };
+    // Places ascend in both, and no place is in both.
+    ghost invariant = { λ l. StandApart l.functions.items l.starts.items };
 }
 
 /// Brings entries into the order of their places, one a place: a named entry before a placeholder,
@@ -49,18 +55,19 @@ fn sort_and_dedup(functions: &mut Vec<PublicFunction<'_>>) -> Result<(), AllocEr
     Ok(())
 }
 
+/// Brings places into order, each once.
+fn sort_and_dedup_starts(starts: &mut Vec<PdbInternalSectionOffset>)
+    ensures { placeholders starts.new.items ≡ publics_among (placeholders starts.old.items) }
+{
+    starts.sort_unstable_by_key(|start: &PdbInternalSectionOffset| (start.section, start.offset));
+    starts.dedup_by_key(|start: &mut PdbInternalSectionOffset| *start);
+}
+
 /// Whether a place comes before another one, by section and offset.
 fn is_before(place: PdbInternalSectionOffset, other: PdbInternalSectionOffset) -> bool
     ensures { result ≡ comes_before place other }
 {
     place.section < other.section || (place.section == other.section && place.offset < other.offset)
-}
-
-/// Whether an entry begins at a place.
-fn is_at(place: PdbInternalSectionOffset, function: &PublicFunction<'_>) -> bool
-    ensures { result ≡ at_place place function.now }
-{
-    function.start_offset.section == place.section && function.start_offset.offset == place.offset
 }
 
 /// The number of entries of a list in order that begin at a place or before it, in its section or
@@ -72,22 +79,45 @@ fn count_up_to(functions: &[PublicFunction<'_>], place: PdbInternalSectionOffset
     functions.partition_point(|f| !is_before(place, f.start_offset))
 }
 
-/// The entry of a list with that index, counted from 0.
-fn entry_at<'f, 's>(
-    functions: &'f [PublicFunction<'s>],
-    number: usize,
-) -> Option<&'f PublicFunction<'s>>
-    ensures { option_map (λ f. f.now) result ≡ slice_get functions.now number }
+/// The number of places in order that are at a place or before it, in its section or in one before.
+/// It is a binary search.
+fn count_starts(starts: &[PdbInternalSectionOffset], place: PdbInternalSectionOffset) -> usize
+    requires { Rises (placeholders starts.now) }
+    ensures { IsSplit (placeholders starts.now) place result }
 {
-    functions.get(number)
+    starts.partition_point(|start| !is_before(place, *start))
+}
+
+/// The entry of a list with that index, counted from 0.
+fn entry_at<'s>(functions: &[PublicFunction<'s>], number: usize) -> Option<PublicFunction<'s>>
+    ensures { result ≡ slice_get functions.now number }
+{
+    match functions.get(number) {
+        None => None,
+        Some(function) => Some(PublicFunction {
+            start_offset: function.start_offset,
+            name: function.name,
+        }),
+    }
+}
+
+/// The placeholder at the place with that index, counted from 0.
+#[tactic(auto, using(crate::proofs::Lookup::start_there, crate::proofs::Lookup::start_missing))]
+fn start_at<'s>(starts: &[PdbInternalSectionOffset], number: usize) -> Option<PublicFunction<'s>>
+    ensures { result ≡ slice_get (placeholders starts.now) number }
+{
+    match starts.get(number) {
+        None => None,
+        Some(start) => Some(PublicFunction {
+            start_offset: *start,
+            name: None,
+        }),
+    }
 }
 
 /// The last of the first `count` entries of a list.
-fn last_of<'f, 's>(
-    functions: &'f [PublicFunction<'s>],
-    count: usize,
-) -> Option<&'f PublicFunction<'s>>
-    ensures { option_map (λ f. f.now) result ≡ last_of_list functions.now count }
+fn last_of<'s>(functions: &[PublicFunction<'s>], count: usize) -> Option<PublicFunction<'s>>
+    ensures { result ≡ last_of_list functions.now count }
 {
     if count == 0 {
         return None;
@@ -95,69 +125,178 @@ fn last_of<'f, 's>(
     entry_at(functions, count - 1)
 }
 
-/// The last entry of a list in order at a place or before it, in its section.
-#[tactic(auto, using(crate::proofs::Lookup::last_found, crate::proofs::Lookup::last_other, crate::proofs::Lookup::last_nothing))]
-fn last_at_or_before<'f, 's>(
-    functions: &'f [PublicFunction<'s>],
-    place: PdbInternalSectionOffset,
-) -> Option<&'f PublicFunction<'s>>
-    requires { Rises functions.now }
-    ensures { option_map (λ f. f.now) result ≡ last_before functions.now place }
+/// The placeholder at the last of the first `count` places.
+fn last_start_of<'s>(
+    starts: &[PdbInternalSectionOffset],
+    count: usize,
+) -> Option<PublicFunction<'s>>
+    ensures { result ≡ last_of_list (placeholders starts.now) count }
 {
-    let Some(last) = last_of(functions, count_up_to(functions, place)) else {
-        return None;
-    };
-    if last.start_offset.section != place.section {
+    if count == 0 {
         return None;
     }
-    Some(last)
+    start_at(starts, count - 1)
+}
+
+/// An entry, if it begins at a place.
+fn if_at<'s>(
+    found: Option<PublicFunction<'s>>,
+    place: PdbInternalSectionOffset,
+) -> Option<PublicFunction<'s>>
+    ensures { result ≡ option_and_then (only_at place) found.entry }
+{
+    let Some(function) = found else {
+        return None;
+    };
+    let start = function.start_offset;
+    if start.section == place.section && start.offset == place.offset {
+        Some(function)
+    } else {
+        None
+    }
+}
+
+/// An entry, if it begins in the section of a place.
+fn in_section<'s>(
+    found: Option<PublicFunction<'s>>,
+    place: PdbInternalSectionOffset,
+) -> Option<PublicFunction<'s>>
+    ensures { result ≡ option_and_then (only_in_section place) found.entry }
+{
+    let Some(function) = found else {
+        return None;
+    };
+    if function.start_offset.section == place.section {
+        Some(function)
+    } else {
+        None
+    }
+}
+
+/// The first of two entries that may be there.
+fn first_of<'s>(
+    found: Option<PublicFunction<'s>>,
+    other: Option<PublicFunction<'s>>,
+) -> Option<PublicFunction<'s>>
+    ensures { result ≡ first_of_two found.entry other.entry }
+{
+    match (found, other) {
+        (Some(function), Some(start)) => {
+            if is_before(start.start_offset, function.start_offset) {
+                Some(start)
+            } else {
+                Some(function)
+            }
+        }
+        (None, other) => other,
+        (found, None) => found,
+    }
+}
+
+/// The last of two entries that may be there.
+fn latter_of<'s>(
+    found: Option<PublicFunction<'s>>,
+    other: Option<PublicFunction<'s>>,
+) -> Option<PublicFunction<'s>>
+    ensures { result ≡ last_of_two found.entry other.entry }
+{
+    match (found, other) {
+        (Some(function), Some(start)) => {
+            if is_before(function.start_offset, start.start_offset) {
+                Some(start)
+            } else {
+                Some(function)
+            }
+        }
+        (None, other) => other,
+        (found, None) => found,
+    }
 }
 
 /// The entry of a list in order at exactly a place, from the number that begin at the place or
 /// before it.
-#[tactic(auto, using(crate::proofs::Lookup::exactly_found, crate::proofs::Lookup::exactly_other, crate::proofs::Lookup::exactly_nothing))]
-fn last_at<'f, 's>(
-    functions: &'f [PublicFunction<'s>],
+#[tactic(auto, using(crate::proofs::Lookup::exactly_by_split))]
+fn last_at<'s>(
+    functions: &[PublicFunction<'s>],
     count: usize,
     place: PdbInternalSectionOffset,
-) -> Option<&'f PublicFunction<'s>>
+) -> Option<PublicFunction<'s>>
     requires rises { Rises functions.now }
     requires split { IsSplit functions.now place count }
-    ensures { option_map (λ f. f.now) result ≡ public_exactly functions.now place }
+    ensures { result ≡ public_exactly functions.now place }
 {
-    let Some(last) = last_of(functions, count) else {
-        return None;
-    };
-    if is_at(place, last) { Some(last) } else { None }
+    if_at(last_of(functions, count), place)
 }
 
 /// The entry of a list in order at exactly a place.
-fn exactly_at<'f, 's>(
-    functions: &'f [PublicFunction<'s>],
+fn function_exactly<'s>(
+    functions: &[PublicFunction<'s>],
     place: PdbInternalSectionOffset,
-) -> Option<&'f PublicFunction<'s>>
+) -> Option<PublicFunction<'s>>
     requires { Rises functions.now }
-    ensures { option_map (λ f. f.now) result ≡ public_exactly functions.now place }
+    ensures { result ≡ public_exactly functions.now place }
 {
     last_at(functions, count_up_to(functions, place), place)
 }
 
-/// The next entry of an ordered list after a place, in its section.
-#[tactic(auto, using(crate::proofs::Lookup::next_found, crate::proofs::Lookup::next_other, crate::proofs::Lookup::next_nothing))]
-fn first_behind<'f, 's>(
-    functions: &'f [PublicFunction<'s>],
+/// The placeholder at exactly a place, if it is one of places in order.
+#[tactic(auto, using(crate::proofs::Lookup::exactly_by_split))]
+fn start_exactly<'s>(
+    starts: &[PdbInternalSectionOffset],
     place: PdbInternalSectionOffset,
-) -> Option<&'f PublicFunction<'s>>
-    requires { Rises functions.now }
-    ensures { option_map (λ f. f.now) result ≡ next_public functions.now place }
+) -> Option<PublicFunction<'s>>
+    requires { Rises (placeholders starts.now) }
+    ensures { result ≡ public_exactly (placeholders starts.now) place }
 {
-    let Some(next) = entry_at(functions, count_up_to(functions, place)) else {
-        return None;
-    };
-    if next.start_offset.section != place.section {
-        return None;
-    }
-    Some(next)
+    if_at(last_start_of(starts, count_starts(starts, place)), place)
+}
+
+/// The last entry of a list in order at a place or before it, in its section.
+#[tactic(auto, using(crate::proofs::Lookup::last_by_split))]
+fn last_function<'s>(
+    functions: &[PublicFunction<'s>],
+    place: PdbInternalSectionOffset,
+) -> Option<PublicFunction<'s>>
+    requires { Rises functions.now }
+    ensures { result ≡ last_before functions.now place }
+{
+    in_section(last_of(functions, count_up_to(functions, place)), place)
+}
+
+/// The placeholder at the last of places in order that is at a place or before it, in its section.
+#[tactic(auto, using(crate::proofs::Lookup::last_by_split))]
+fn last_start<'s>(
+    starts: &[PdbInternalSectionOffset],
+    place: PdbInternalSectionOffset,
+) -> Option<PublicFunction<'s>>
+    requires { Rises (placeholders starts.now) }
+    ensures { result ≡ last_before (placeholders starts.now) place }
+{
+    in_section(last_start_of(starts, count_starts(starts, place)), place)
+}
+
+/// The next entry of a list in order after a place, in its section.
+#[tactic(auto, using(crate::proofs::Lookup::next_by_split))]
+fn next_function<'s>(
+    functions: &[PublicFunction<'s>],
+    place: PdbInternalSectionOffset,
+) -> Option<PublicFunction<'s>>
+    requires { Rises functions.now }
+    ensures { result ≡ next_public functions.now place }
+{
+    in_section(entry_at(functions, count_up_to(functions, place)), place)
+}
+
+/// The placeholder at the next of places in order after a place, in its section.
+#[tactic(auto, using(crate::proofs::Lookup::next_by_split))]
+fn next_start<'s>(
+    starts: &[PdbInternalSectionOffset],
+    place: PdbInternalSectionOffset,
+) -> Option<PublicFunction<'s>>
+    requires { Rises (placeholders starts.now) }
+    ensures { result ≡ next_public (placeholders starts.now) place }
+{
+    in_section(start_at(starts, count_starts(starts, place)), place)
 }
 
 /// Whether the first `count` entries of a list in order begin at a place or before it: the last of
@@ -250,37 +389,22 @@ fn begins_next(
     last_at(functions, *count, place).is_some()
 }
 
-/// The places at which no entry of a list in order begins.
-#[tactic(auto, using(crate::proofs::Missing::missing_start, crate::proofs::Missing::missing_more, crate::proofs::Missing::missing_passed, crate::proofs::Missing::missing_end))]
-fn missing_among(
-    alloc: Global,
-    functions: &[PublicFunction<'_>],
-    starts: &[PdbInternalSectionOffset],
-) -> Result<Vec<PdbInternalSectionOffset>, AllocError>
+/// Leaves of places those at which no entry of a list in order begins. It takes no memory.
+#[tactic(auto, using(crate::proofs::Missing::kept_start, crate::proofs::Missing::kept_more, crate::proofs::Missing::kept_passed, crate::proofs::Missing::kept_end))]
+fn keep_missing(functions: &[PublicFunction<'_>], starts: &mut Vec<PdbInternalSectionOffset>)
     requires { Rises functions.now }
-    ensures { IfOk result (λ v. v.items ≡ missing functions.now starts.now) }
+    ensures { starts.new.items ≡ missing functions.now starts.old.items }
 {
-    let mut places = Vec::new(alloc);
     let mut count = 0;
-    for start in starts {
-        if !begins_next(functions, &mut count, *start) {
-            places.push(*start)?;
+    let mut kept = 0;
+    for index in 0..starts.len() {
+        let start = starts[index];
+        if !begins_next(functions, &mut count, start) {
+            starts[kept] = start;
+            kept += 1;
         }
     }
-    Ok(places)
-}
-
-/// Appends placeholders at the places at which no entry of a list in order begins.
-fn push_missing(
-    functions: &mut Vec<PublicFunction<'_>>,
-    starts: &[PdbInternalSectionOffset],
-) -> Result<(), AllocError>
-    requires { Rises functions.old.items }
-    ensures { OnOk result (functions.new.items ≡ with_missing functions.old.items starts.now) }
-{
-    let alloc = *functions.allocator();
-    let places = missing_among(alloc, functions.as_slice(), starts)?;
-    push_placeholders(functions, places.as_slice())
+    starts.truncate(kept);
 }
 
 impl<'s> PublicList<'s> {
@@ -288,54 +412,66 @@ impl<'s> PublicList<'s> {
     /// ends. Of the entries at one place a named one counts before a placeholder, and then the
     /// first.
     ///
-    /// A public symbol is at most of the places, so only the others get a placeholder before all
-    /// entries are sorted.
+    /// A public symbol is at most of the starts. The others stay in the memory in which they came.
     ///
     /// # Errors
     /// `AllocError` when memory runs out.
-    #[tactic(auto, using(crate::proofs::Lookup::rises, crate::proofs::Missing::all_stand))]
+    #[tactic(auto, using(crate::proofs::Joined::all_stand))]
     pub fn new(
         mut functions: Vec<PublicFunction<'s>>,
-        starts: &[PdbInternalSectionOffset],
+        mut starts: Vec<PdbInternalSectionOffset>,
         sections: &[ImageSectionHeader],
     ) -> Result<PublicList<'s>, AllocError>
         ensures { IfOk result
-            (λ l. l ≡ public_list functions.entry.items starts.now sections.now) }
+            (λ l. l ≡ public_list functions.entry.items starts.items sections.now) }
     {
-        sort_and_dedup(&mut functions)?;
-        push_missing(&mut functions, starts)?;
         push_section_ends(&mut functions, sections)?;
         sort_and_dedup(&mut functions)?;
-        Ok(PublicList { functions })
+        keep_missing(functions.as_slice(), &mut starts);
+        sort_and_dedup_starts(&mut starts);
+        Ok(PublicList { functions, starts })
     }
 
     /// The number of its entries.
+    #[tactic(auto, using(crate::proofs::Joined::joined_length))]
     pub fn len(&self) -> usize
         ensures { result ≡ length self.now }
     {
-        self.functions.len()
+        self.functions.len() + self.starts.len()
     }
 
-    /// The entries by their places.
-    pub fn as_slice(&self) -> &[PublicFunction<'s>]
-        ensures { result.now ≡ self.now }
+    /// Public symbols and the ends of sections, and the places of the other placeholders; both in
+    /// the order of their places.
+    pub fn as_slices(&self) -> (&[PublicFunction<'s>], &[PdbInternalSectionOffset])
+        ensures { self.now ≡ joined result.0.now result.1.now }
     {
-        self.functions.as_slice()
+        (self.functions.as_slice(), self.starts.as_slice())
     }
 
     /// The entry at exactly a place.
-    pub fn exactly(&self, place: PdbInternalSectionOffset) -> Option<&PublicFunction<'s>>
-        ensures { option_map (λ f. f.now) result ≡ public_exactly self.now place }
+    #[tactic(auto, using(crate::proofs::Joined::exactly_joined))]
+    pub fn exactly(&self, place: PdbInternalSectionOffset) -> Option<PublicFunction<'s>>
+        ensures { result ≡ public_exactly self.now place }
     {
-        exactly_at(&self.functions, place)
+        let function = function_exactly(&self.functions, place);
+        first_of(function, start_exactly(&self.starts, place))
+    }
+
+    /// The last entry at a place or before it, in its section.
+    #[tactic(auto, using(crate::proofs::Joined::last_joined))]
+    fn last_at_or_before(&self, place: PdbInternalSectionOffset) -> Option<PublicFunction<'s>>
+        ensures { result ≡ last_before self.now place }
+    {
+        let function = last_function(&self.functions, place);
+        latter_of(function, last_start(&self.starts, place))
     }
 
     /// The entry of a place: the last one at the place or before it, in its section; `None` where
     /// that one lies before `start`, the start of the contribution that holds the place.
-    pub fn over(&self, start: u32, place: PdbInternalSectionOffset) -> Option<&PublicFunction<'s>>
-        ensures { option_map (λ f. f.now) result ≡ public_over self.now start place }
+    pub fn over(&self, start: u32, place: PdbInternalSectionOffset) -> Option<PublicFunction<'s>>
+        ensures { result ≡ public_over self.now start place }
     {
-        let found = last_at_or_before(&self.functions, place)?;
+        let found = self.last_at_or_before(place)?;
         if found.start_offset.offset < start {
             return None;
         }
@@ -343,10 +479,12 @@ impl<'s> PublicList<'s> {
     }
 
     /// The next entry after a place, in its section.
-    pub fn next_behind(&self, place: PdbInternalSectionOffset) -> Option<&PublicFunction<'s>>
-        ensures next { option_map (λ f. f.now) result ≡ next_public self.now place }
+    #[tactic(auto, using(crate::proofs::Lookup::rises, crate::proofs::Joined::next_joined))]
+    pub fn next_behind(&self, place: PdbInternalSectionOffset) -> Option<PublicFunction<'s>>
+        ensures next { result ≡ next_public self.now place }
         ensures rises { Rises self.now }
     {
-        first_behind(&self.functions, place)
+        let function = next_function(&self.functions, place);
+        first_of(function, next_start(&self.starts, place))
     }
 }

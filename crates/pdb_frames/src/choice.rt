@@ -9,7 +9,8 @@ ghost use Rattle.pdb_frames.specs.ChosenSeen.{chosen_seen, end_seen};
 
 use crate::parts::ContextParts;
 use pdb_addresses::PdbInternalSectionOffset;
-use pdb_contributions::{ModuleSectionContribution, PublicFunction};
+use pdb_container::RawString;
+use pdb_contributions::ModuleSectionContribution;
 use pdb_known_modules::{BasicModuleInfo, procedure_numbered};
 use pdb_module_data::Procedure;
 use pdb_resolving::ModuleTables;
@@ -20,8 +21,9 @@ pub enum Chosen<'c, 'a> {
     /// A procedure of the module that holds the place, after its index among that module's
     /// procedures.
     Procedure(usize, &'c Procedure<'a>),
-    /// An entry of the public list.
-    Public(&'c PublicFunction<'a>),
+    /// An entry of the public list: the place at which it begins, and its name; a placeholder has
+    /// no name.
+    Public(PdbInternalSectionOffset, Option<RawString<'a>>),
 }
 
 /// The end of a chosen function.
@@ -57,7 +59,7 @@ pub fn choose<'c, 'a, I: ModuleTables>(
     }
     match parts.publics.over(contribution.start_offset(), place) {
         None => None,
-        Some(public) => Some(Chosen::Public(public)),
+        Some(public) => Some(Chosen::Public(public.start_offset, public.name)),
     }
 }
 
@@ -78,7 +80,7 @@ impl<'c, 'a> Chosen<'c, 'a> {
     {
         match self {
             Chosen::Procedure(_, procedure) => procedure.offset,
-            Chosen::Public(public) => public.start_offset,
+            Chosen::Public(start, _) => start,
         }
     }
 
@@ -96,13 +98,9 @@ impl<'c, 'a> Chosen<'c, 'a> {
     {
         match self {
             Chosen::Procedure(_, procedure) => Some(procedure.len),
-            Chosen::Public(public) => {
-                let next = parts.publics.next_behind(public.start_offset)?;
-                Some(
-                    next.start_offset
-                        .offset
-                        .saturating_sub(public.start_offset.offset),
-                )
+            Chosen::Public(start, _) => {
+                let next = parts.publics.next_behind(start)?;
+                Some(next.start_offset.offset.saturating_sub(start.offset))
             }
         }
     }
@@ -125,7 +123,7 @@ impl<'c, 'a> Chosen<'c, 'a> {
                 None => FunctionEnd::Unknown,
                 Some(end) => FunctionEnd::At(end),
             },
-            Chosen::Public(public) => match parts.publics.next_behind(public.start_offset) {
+            Chosen::Public(start, _) => match parts.publics.next_behind(start) {
                 None => FunctionEnd::Unknown,
                 Some(next) => match next.start_offset.to_rva(parts.address_map) {
                     None => FunctionEnd::NoFunction,

@@ -17,11 +17,8 @@ use std::sync::ArcStr;
 
 /// The decorated public name that a procedure has in place of its own: at its start, where it has
 /// no type and no decorated name of its own.
-fn public_name<'p, 'a>(
-    parts: &'p ContextParts<'a, '_>,
-    procedure: &Procedure<'_>,
-) -> Option<&'p RawString<'a>>
-    ensures { option_map (λ n. raw_bytes n.now) result ≡ public_name_of parts.now procedure.now }
+fn public_name<'a>(parts: &ContextParts<'a, '_>, procedure: &Procedure<'_>) -> Option<RawString<'a>>
+    ensures { option_map raw_bytes result ≡ public_name_of parts.now procedure.now }
 {
     if procedure.type_index.0 == 0 && !is_decorated(procedure.name.as_bytes()) {
         parts.decorated_at(procedure.offset)
@@ -46,7 +43,7 @@ fn procedure_name<'a, P: ModuleProvider>(
 {
     match public_name(parts, procedure) {
         Some(name) => {
-            let name = shared_raw_name(alloc, name)?;
+            let name = shared_raw_name(alloc, &name)?;
             Ok(Some(name))
         }
         None => namer.typed_name(alloc, module_index, number, procedure),
@@ -77,6 +74,6 @@ pub fn name_of<'a, P: ModuleProvider>(
             number,
             procedure,
         ),
-        Chosen::Public(public) => if_named(alloc, &public.name),
+        Chosen::Public(_, name) => if_named(alloc, &name),
     }
 }

@@ -117,7 +117,7 @@ fn chosen_run<'m, I: ModuleTables>(
         Chosen::Procedure(number, procedure) => {
             procedure_run(alloc, known, extended, number, procedure, stretch)
         }
-        Chosen::Public(public) => public_run(alloc, known, extended, public.start_offset, stretch),
+        Chosen::Public(start, _) => public_run(alloc, known, extended, start, stretch),
     }
 }
 

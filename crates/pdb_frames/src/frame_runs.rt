@@ -89,9 +89,7 @@ fn chosen_count<'m, I: ModuleTables>(
         Chosen::Procedure(number, procedure) => {
             procedure_count(alloc, known, extended, number, procedure, stretch)
         }
-        Chosen::Public(public) => {
-            public_count(alloc, known, extended, public.start_offset, stretch)
-        }
+        Chosen::Public(start, _) => public_count(alloc, known, extended, start, stretch),
     }
 }
 

@@ -115,8 +115,8 @@ fn row_and_calls_in<'m, I: ModuleTables>(
         Chosen::Procedure(number, procedure) => {
             procedure_row_and_calls(alloc, known, extended, number, procedure, place)
         }
-        Chosen::Public(public) => {
-            let row = public_row(alloc, known, extended, public.start_offset, place)?;
+        Chosen::Public(start, _) => {
+            let row = public_row(alloc, known, extended, start, place)?;
             Ok((row, Vec::new(alloc)))
         }
     }

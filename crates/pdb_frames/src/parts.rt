@@ -113,7 +113,7 @@ impl<'a, 's> ContextParts<'a, 's> {
             contributions,
             later_starts,
         } = held;
-        let publics = PublicList::new(functions, later_starts.as_slice(), sections)?;
+        let publics = PublicList::new(functions, later_starts, sections)?;
         let contributions = HeldPlaces::new(alloc, contributions)?;
         let names = FileNames::new(alloc, string_table)?;
         Ok(ContextParts {
@@ -199,11 +199,11 @@ impl<'a, 's> ContextParts<'a, 's> {
     }
 
     /// Returns the decorated public name at exactly a place.
-    pub fn decorated_at(&self, place: PdbInternalSectionOffset) -> Option<&RawString<'a>>
-        ensures { option_map (λ n. raw_bytes n.now) result ≡ decorated_name_at self.now place }
+    pub fn decorated_at(&self, place: PdbInternalSectionOffset) -> Option<RawString<'a>>
+        ensures { option_map raw_bytes result ≡ decorated_name_at self.now place }
     {
         let public = self.publics.exactly(place)?;
-        match &public.name {
+        match public.name {
             None => None,
             Some(name) => {
                 if is_decorated(name.as_bytes()) {

@@ -14,6 +14,6 @@ returns-in-Some-over-clause-chosen g c =
           w.procedure_numbered.ensures w.if-is_some.ensures w.in-Some.ensures
       | in_default w ↦ sym w.in_default.ensures
     ] in
-    by_place c.args.parts.now procedures c.args.contribution c.args.place c.in-Some-over.public.now c.public.inside.start_offset none
-    (over_as c.parts.inside.publics c.args.parts.now.publics c.start_offset.result c.args.contribution.start_offset c.args.place (Some c.in-Some-over.public.now) (ap (λ p. p.publics) c.parts.view_is) c.start_offset.ensures c.in-Some-over.ensures)
+    by_place c.args.parts.now procedures c.args.contribution c.args.place c.in-Some-over.public c.public.inside.start_offset none
+    (over_as c.parts.inside.publics c.args.parts.now.publics c.start_offset.result c.args.contribution.start_offset c.args.place (Some c.in-Some-over.public) (ap (λ p. p.publics) c.parts.view_is) c.start_offset.ensures c.in-Some-over.ensures)
     (sym (ap (λ f. f.start_offset) c.public.view_is))
