@@ -2,11 +2,11 @@
 """Measures one address of three databases of 1 GB, and prints a table: large.py OUT PROGRAM..
 
 OUT is the folder of run.sh, with its databases `small` and `large`. It gets the databases of 1 GB:
-`small` extended by free pages; `large` with its modules 18 times over, which hold what one of them
-did; and the same where each holds as much. PROGRAM is the path of pdb_symbolizer, of
-pdb_llvm_symbolizer, of llvm-symbolizer, or of the ported crate's program that run.sh builds. Those
-named after llvm-symbolizer are asked by image. Times are processor seconds, the least of five runs
-in turn. What is read of a database is counted by strace, if that is installed. Debian: strace,
+`small` extended by free pages; `small` with its modules 166 times over; and `large` with its
+modules 18 times over. Each copy of a module holds as much as the module did. PROGRAM is the path of
+pdb_symbolizer, of pdb_llvm_symbolizer, of llvm-symbolizer, or of the ported crate's program that
+run.sh builds. Those named after llvm-symbolizer are asked by image. Times are processor seconds,
+the least of five runs in turn. What is read of a database is counted by strace, if that is installed. Debian: strace,
 llvm-19."""
 import os
 import re
@@ -20,7 +20,6 @@ sys.dont_write_bytecode = True
 import meter  # noqa: E402
 
 PAGE = 4096
-TIMES = 18
 NO_STREAM = 0xFFFF
 DEBUG_INFORMATION = 3
 HEADER, ENTRY = "<32s4I", "<HHIIIHHII"  # of a file, of a contribution
@@ -80,9 +79,8 @@ def module_entries(data):
         place = end
 
 
-def many_times(streams, holds):
-    """The same streams with their modules TIMES times over. If each holds as much, the copies' code
-    lies behind it all; otherwise they hold nothing."""
+def many_times(streams, times):
+    """The same streams with their modules many times over; the copies' code lies behind it all."""
     dbi = streams[DEBUG_INFORMATION]
     modules, held = struct.unpack("<2I", dbi[SIZES])
     lists = dbi[64 : 64 + modules]
@@ -92,7 +90,7 @@ def many_times(streams, holds):
     rows = list(struct.iter_unpack(ENTRY, contributions[4:]))
     span = max(row[2] + row[3] for row in rows)
     found, all_entries, all_rows = list(streams), [], []
-    for copy in range(TIMES):
+    for copy in range(times):
         for entry in entries:
             entry = bytearray(entry)
             stream = struct.unpack_from("<H", entry, 34)[0]
@@ -100,7 +98,7 @@ def many_times(streams, holds):
                 struct.pack_into("<H", entry, 34, len(found))
                 found.append(streams[stream])
             all_entries.append(bytes(entry))
-        for row in rows if holds or not copy else []:
+        for row in rows:
             row = list(row)
             row[2] += copy * span
             row[5] += copy * len(entries)
@@ -157,11 +155,11 @@ def reads_of(words, given, pdb):
 
 def main(out, *programs):
     out = os.path.realpath(out)
-    many_of = lambda holds: lambda source, path: write_database(path, many_times(streams_of(source), holds))
+    many_of = lambda times: lambda source, path: write_database(path, many_times(streams_of(source), times))
     asked = [
         ("free pages", made(out, "free", "small", with_free_pages), "small.1"),
-        ("modules 18 times over", made(out, "modules", "large", many_of(False)), "large.1"),
-        ("also what they hold", made(out, "many", "large", many_of(True)), "large.1"),
+        ("10 MB, modules 166 times over", made(out, "many_small", "small", many_of(166)), "small.1"),
+        ("90 MB, modules 18 times over", made(out, "many", "large", many_of(18)), "large.1"),
     ]
     print("| one address of a large file | program | reads | MB read | seconds | MB |\n|" + "---|" * 6)
     for what, pdb, given in asked:
