@@ -80,7 +80,7 @@ def module_entries(data):
 
 
 def many_times(streams, times):
-    """The same streams with their modules many times over; the copies' code lies behind it all."""
+    """The same streams with their modules many times over; the copies' code comes after it all."""
     dbi = streams[DEBUG_INFORMATION]
     modules, held = struct.unpack("<2I", dbi[SIZES])
     lists = dbi[64 : 64 + modules]
