@@ -1,13 +1,15 @@
 -- Sums over tables of keys, entry by entry.
-use Rattle.std.proofs.Common.{◌≡◌, ℕ, ◌+◌, ◌≤◌, Bool, true, false, List, [], ◌∷◌, ap, ◌∙◌, subst, arith}
-use Rattle.std.specs.Prelude.{Result, Ok, Err, IfOk, if◌then◌else◌}
+use Rattle.std.proofs.Common.{◌≡◌, ℕ, ◌+◌, ◌-◌, ◌≤◌, Bool, true, false, List, ◌∷◌, ap, ◌∙◌, subst, arith}
+use Rattle.std.specs.Prelude.{Result, Ok, Err, if◌then◌else◌}
 use Rattle.std.specs.Map.{values_of}
 use Rattle.std.proofs.lemmas.List.Sums.{sum_by-cons}
 use Rattle.pdb_addresses.specs.Addresses.{Map}
 use Rattle.pdb_owners.specs.Answers.{picked}
+use Rattle.pdb_owners.specs.Counted.{CountsAddresses}
 use Rattle.pdb_owners.specs.Counts.{counted_at, how_many}
 use Rattle.pdb_owners.specs.Databases.{Keyed}
-use Rattle.pdb_owners.specs.Table.{IsCounted, sum_found, sum_of}
+use Rattle.pdb_owners.specs.Table.{sum_found, sum_of, sum_where}
+use Rattle.pdb_listings.specs.NamedSizes.{CountsBytes, CountsNamed, SumsBytes, SumsNamed, Table, named}
 
 -- one entry more was added
 pub entry_added : {K A : Type 0} (kd now : Keyed K A) (test : A → Bool) (key : K) (bytes : ℕ) (rest left : List (K × ℕ)) (old new all : ℕ)
@@ -41,17 +43,24 @@ entry_fits e rest old all so_far =
     omega (arith, one, so_far)
 
 -- the counts of the keys of addresses are those of the addresses
-pub sum_counted : {K A : Type 0} (kd mid last : Keyed K A) (m : Map) (s n : ℕ) (test : A → Bool) (keys : List (K × ℕ)) (sum : ℕ)
-    → mid ≡ kd → last ≡ mid → IsCounted mid.answer_of (counted_at m mid.places) s n [] keys → sum ≡ sum_found last.answer_of test keys
-    → sum ≡ how_many (λ a. picked test (counted_at m kd.places a)) s n
-sum_counted {K} {A} kd mid last m s n test keys sum first second counted is =
-    let here : IsCounted kd.answer_of (counted_at m kd.places) s n [] keys =
-    subst (λ (k : Keyed K A). IsCounted k.answer_of (counted_at m k.places) s n [] keys) first counted in
-    let all : sum_found kd.answer_of test keys ≡ 0 + how_many (λ a. picked test (counted_at m kd.places a)) s n = here.each test in
-    let same : sum ≡ sum_found kd.answer_of test keys = is ∙ ap (λ (k : Keyed K A). sum_found k.answer_of test keys) (second ∙ first) in
-    omega (arith, all, same)
+sum_counted : {K A : Type 0} (kd last : Keyed K A) (m : Map) (s e : ℕ) (test : A → Bool) (keys : List (K × ℕ)) (sum : ℕ)
+    → last ≡ kd → CountsAddresses m kd s e keys → sum ≡ sum_found last.answer_of test keys
+    → sum ≡ how_many (λ a. picked test (counted_at m kd.places a)) s (e - s)
+sum_counted {K} {A} kd last m s e test keys sum same counted is =
+    let all : sum_found kd.answer_of test keys ≡ 0 + how_many (λ a. picked test (counted_at m kd.places a)) s (e - s) = counted.each test in
+    let here : sum ≡ sum_found kd.answer_of test keys = is ∙ ap (λ (k : Keyed K A). sum_found k.answer_of test keys) same in
+    omega (arith, all, here)
 
--- what follows of a value, if there is one
-pub if_ok_then : {T E : Type 0} (r : Result T E) (p q : T → Type 0) → ((x : T) → p x → q x) → IfOk r p → IfOk r q
-if_ok_then (Ok x) p q f h = f x h
-if_ok_then (Err e) p q f h = tt
+-- the bytes of the names of keys are those of the names of addresses
+pub named_counted : {K A E : Type 0} (kd last : Keyed K A) (name : A → List ℕ) (m : Map) (s e : ℕ) (keys : List (K × ℕ)) (r : Result Table E)
+    → last ≡ kd → CountsAddresses m kd s e keys → SumsNamed name last keys r → CountsNamed name m kd s e r
+named_counted kd last name m s e keys (Ok table) same counted sums =
+    λ test. sum_counted kd last m s e (named name test) keys (sum_where test table) same counted (sums test)
+named_counted kd last name m s e keys (Err fault) same counted sums = tt
+
+-- all bytes of keys are those of addresses
+pub all_counted : {K A E : Type 0} (kd last : Keyed K A) (m : Map) (s e : ℕ) (keys : List (K × ℕ)) (r : Result Table E)
+    → last ≡ kd → CountsAddresses m kd s e keys → SumsBytes last keys r → CountsBytes m kd s e r
+all_counted {K} {A} kd last m s e keys (Ok table) same counted sum =
+    sum_counted kd last m s e (λ (f : A). true) keys (sum_of table) same counted sum
+all_counted kd last m s e keys (Err fault) same counted sum = tt

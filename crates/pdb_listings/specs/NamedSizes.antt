@@ -13,13 +13,13 @@ use Rattle.pdb_listings.specs.Sizes.{path_name}
 
 -- ---- names
 
--- a test of names, of the stored name of a function
-abbrev pub function_named : (List ℕ → Bool) → Function → Bool
-function_named test f = test (text_or f.name)
+-- the stored name of a function
+abbrev pub stored_name : Function → List ℕ
+stored_name f = text_or f.name
 
--- a test of names, of the path of a source file, or of its folder
-abbrev pub file_named : Bool → (List ℕ → Bool) → FileAnswer → Bool
-file_named by_folder test f = test (path_name by_folder f)
+-- whether the name of an answer passes a test
+abbrev pub named : {A : Type 0} → (A → List ℕ) → (List ℕ → Bool) → A → Bool
+named name test answer = test (name answer)
 
 -- bytes by names
 abbrev pub Table : Type 0
@@ -29,23 +29,11 @@ Table = List (List ℕ × ℕ)
 
 -- Bytes were added to the name of the answer that a key stands for, if there is one, and to no
 -- other name.
-abbrev pub AddsNamed : {K A T E : Type 0} → ((List ℕ → Bool) → A → Bool) → Keyed K A → K → ℕ
-    → Table → Table → Result T E → Type 0
-AddsNamed named keyed key bytes old new result = OnOk result ((test : List ℕ → Bool)
+abbrev pub AddsNamed : {K A T E : Type 0} → (A → List ℕ) → Keyed K A → K → ℕ → Table → Table
+    → Result T E → Type 0
+AddsNamed name keyed key bytes old new result = OnOk result ((test : List ℕ → Bool)
     → sum_where test new
-    ≡ sum_where test old + (if picked (named test) (keyed.answer_of key) then bytes else 0))
-
--- Bytes were added to the stored name of the function that a key stands for, if there is one;
--- nothing is said where names are undecorated.
-abbrev pub AddsName : {K T E : Type 0} → Bool → Keyed K Function → K → ℕ → Table → Table
-    → Result T E → Type 0
-AddsName undecorate keyed key bytes old new result = undecorate ≡ false
-    → AddsNamed function_named keyed key bytes old new result
-
--- Bytes were added to the path of the source file that a key stands for, or to its folder.
-abbrev pub AddsPath : {K T E : Type 0} → Bool → Keyed K FileAnswer → K → ℕ → Table → Table
-    → Result T E → Type 0
-AddsPath by_folder = AddsNamed (file_named by_folder)
+    ≡ sum_where test old + (if picked (named name test) (keyed.answer_of key) then bytes else 0))
 
 -- Bytes were added if a key stands for an answer.
 abbrev pub AddsBytes : {K A T E : Type 0} → Keyed K A → K → ℕ → Table → Table → Result T E → Type 0
@@ -55,21 +43,16 @@ AddsBytes keyed key bytes old new result = OnOk result
 -- ---- the answers of keys
 
 -- The bytes by name are the bytes of the keys whose answers have the name.
-abbrev pub SumsNamed : {K A E : Type 0} → ((List ℕ → Bool) → A → Bool) → Keyed K A → List (K × ℕ)
+abbrev pub SumsNamed : {K A E : Type 0} → (A → List ℕ) → Keyed K A → List (K × ℕ)
     → Result Table E → Type 0
-SumsNamed named keyed keys result = IfOk result (λ table. (test : List ℕ → Bool)
-    → sum_where test table ≡ sum_found keyed.answer_of (named test) keys)
+SumsNamed name keyed keys result = IfOk result (λ table. (test : List ℕ → Bool)
+    → sum_where test table ≡ sum_found keyed.answer_of (named name test) keys)
 
 -- The same by the stored names of functions, unless names are undecorated.
 abbrev pub SumsNames : {K E : Type 0} → Bool → Keyed K Function → List (K × ℕ) → Result Table E
     → Type 0
 SumsNames undecorate keyed keys result = undecorate ≡ false
-    → SumsNamed function_named keyed keys result
-
--- The same by the paths of source files, or by their folders.
-abbrev pub SumsPaths : {K E : Type 0} → Bool → Keyed K FileAnswer → List (K × ℕ) → Result Table E
-    → Type 0
-SumsPaths by_folder = SumsNamed (file_named by_folder)
+    → SumsNamed stored_name keyed keys result
 
 -- The bytes are the bytes of the keys that have an answer.
 abbrev pub SumsBytes : {K A E : Type 0} → Keyed K A → List (K × ℕ) → Result Table E → Type 0
@@ -79,22 +62,22 @@ SumsBytes keyed keys result =
 -- ---- the addresses of a range
 
 -- The bytes by name are the number of addresses of a range that have an answer of the name.
-abbrev pub CountsNamed : {K A E : Type 0} → ((List ℕ → Bool) → A → Bool) → Map → Keyed K A → ℕ → ℕ
+abbrev pub CountsNamed : {K A E : Type 0} → (A → List ℕ) → Map → Keyed K A → ℕ → ℕ
     → Result Table E → Type 0
-CountsNamed named m keyed start end result = IfOk result (λ table. (test : List ℕ → Bool)
+CountsNamed name m keyed start end result = IfOk result (λ table. (test : List ℕ → Bool)
     → sum_where test table
-    ≡ how_many (λ a. picked (named test) (counted_at m keyed.places a)) start (end - start))
+    ≡ how_many (λ a. picked (named name test) (counted_at m keyed.places a)) start (end - start))
 
 -- The same by the stored names of functions, unless names are undecorated.
 abbrev pub CountsNames : {K E : Type 0} → Bool → Map → Keyed K Function → ℕ → ℕ → Result Table E
     → Type 0
 CountsNames undecorate m keyed start end result = undecorate ≡ false
-    → CountsNamed function_named m keyed start end result
+    → CountsNamed stored_name m keyed start end result
 
 -- The same by the paths of source files, or by their folders.
 abbrev pub CountsPaths : {K E : Type 0} → Bool → Map → Keyed K FileAnswer → ℕ → ℕ → Result Table E
     → Type 0
-CountsPaths by_folder = CountsNamed (file_named by_folder)
+CountsPaths by_folder = CountsNamed (path_name by_folder)
 
 -- The bytes are the number of addresses of a range that have an answer.
 abbrev pub CountsBytes : {K A E : Type 0} → Map → Keyed K A → ℕ → ℕ → Result Table E → Type 0

@@ -37,6 +37,7 @@ mod modules;
 mod named;
 mod named_functions;
 mod names;
+mod naming;
 mod owner_sizes;
 mod padding;
 mod plain;

@@ -1,106 +1,94 @@
 //! Bytes by function and by source file.
 
-ghost use Rattle.std.specs.Prelude.{◌≡◌, ◌+◌, ◌<◌, ◌≤◌, ◌^◌};
+ghost use Rattle.std.specs.Prelude.{◌≡◌, ◌+◌, ◌<◌, ◌≤◌, ◌^◌, false};
 ghost use Rattle.pdb_addr2line.specs.ContextAnswers.{files_keyed_in as files_in, keyed_in};
 ghost use Rattle.pdb_addresses.specs.Addresses.{IsOrdered};
-ghost use Rattle.pdb_listings.specs.NamedSizes.{AddsBytes, AddsName, AddsPath};
-ghost use Rattle.pdb_listings.specs.NamedSizes.{CountsBytes, CountsNames, CountsPaths};
-ghost use Rattle.pdb_listings.specs.NamedSizes.{SumsBytes, SumsNames, SumsPaths};
+ghost use Rattle.pdb_listings.specs.NamedSizes.{AddsBytes, AddsNamed, CountsBytes, CountsNamed};
+ghost use Rattle.pdb_listings.specs.NamedSizes.{CountsNames, CountsPaths};
+ghost use Rattle.pdb_listings.specs.NamedSizes.{SumsBytes, SumsNamed, SumsNames};
 ghost use Rattle.pdb_owners.specs.Table.{sum_of};
 
-use crate::by_name::{file_name, function_name};
 use crate::keyed_runs::{FileRuns, FunctionRuns};
 use crate::named::Named;
-use crate::sizes::add_bytes;
+use crate::naming::{FileNaming, FunctionNaming, Naming};
 use pdb_addr2line::Context;
 use pdb_addresses::AddressMap;
-use pdb_owners::{Counts, FileKey, FunctionKey, Runs, count_keys};
+use pdb_owners::{Counts, Function, Runs, count_keys};
 use pdb_resolving::ModuleProvider;
 use std::alloc::{AllocError, Global};
 
-/// Adds bytes to the name of the function that a key stands for, if there is one.
-fn add_function<P: ModuleProvider>(
+/// Adds bytes to the name of the answer that a key stands for, if there is one.
+fn add_named<R: Runs, N: Naming<Answer = R::Found>>(
     alloc: Global,
-    runs: &mut FunctionRuns<'_, '_, P>,
+    runs: &mut R,
+    naming: &N,
     table: &mut Counts<Named>,
-    key: &FunctionKey,
+    key: &R::Key,
     bytes: u64,
-    undecorate: bool,
 ) -> Result<(), AllocError>
     requires room { sum_of table.old + bytes < 2 ^ 64 }
-    ensures each { AddsName undecorate (keyed_in P.provided runs.old.context) key.now bytes
-        table.old table.new result }
-    ensures total { AddsBytes (keyed_in P.provided runs.old.context) key.now bytes
-        table.old table.new result }
-    ensures same { keyed_in P.provided runs.new.context ≡ keyed_in P.provided runs.old.context }
+    ensures each { N.unsaid naming.now ≡ false → AddsNamed (N.name naming.now)
+        (R.keyed runs.old) key.now bytes table.old table.new result }
+    ensures total { AddsBytes (R.keyed runs.old) key.now bytes table.old table.new result }
+    ensures same { R.keyed runs.new ≡ R.keyed runs.old }
 {
     match runs.answer_of(alloc, key)? {
         None => Ok(()),
-        Some(function) => {
-            let name = function_name(alloc, &function, undecorate)?;
-            add_bytes(alloc, table, name.as_str(), bytes)
-        }
+        Some(answer) => naming.add(alloc, table, &answer, bytes),
     }
+}
+
+/// The bytes of the answers that keys stand for, by the answers' names.
+#[tactic(auto, using(crate::proofs::KeySums::entry_fits))]
+fn name_answers<R: Runs, N: Naming<Answer = R::Found>>(
+    alloc: Global,
+    runs: &mut R,
+    naming: &N,
+    keys: &Counts<R::Key>,
+) -> Result<Counts<Named>, AllocError>
+    ensures each { N.unsaid naming.now ≡ false → SumsNamed (N.name naming.now)
+        (R.keyed runs.old) keys.now result }
+    ensures total { SumsBytes (R.keyed runs.old) keys.now result }
+{
+    let mut table = Counts::new(alloc);
+    let _total = keys.total();
+    for (key, bytes) in keys.by_answer() {
+        add_named(alloc, runs, naming, &mut table, key, *bytes)?;
+    }
+    Ok(table)
 }
 
 /// The bytes of the functions that keys stand for, by the functions' names.
-#[tactic(auto, using(crate::proofs::KeySums::entry_fits))]
-pub(crate) fn name_functions<P: ModuleProvider>(
+pub(crate) fn name_functions<R: Runs<Found = Function>>(
     alloc: Global,
-    runs: &mut FunctionRuns<'_, '_, P>,
-    keys: &Counts<FunctionKey>,
+    runs: &mut R,
+    keys: &Counts<R::Key>,
     undecorate: bool,
 ) -> Result<Counts<Named>, AllocError>
-    ensures each { SumsNames undecorate (keyed_in P.provided runs.old.context) keys.now result }
-    ensures total { SumsBytes (keyed_in P.provided runs.old.context) keys.now result }
+    ensures each { SumsNames undecorate (R.keyed runs.old) keys.now result }
+    ensures total { SumsBytes (R.keyed runs.old) keys.now result }
 {
-    let mut table = Counts::new(alloc);
-    let _total = keys.total();
-    for (key, bytes) in keys.by_answer() {
-        add_function(alloc, runs, &mut table, key, *bytes, undecorate)?;
-    }
-    Ok(table)
+    name_answers(alloc, runs, &FunctionNaming { undecorate }, keys)
 }
 
-/// Adds bytes to the path of the source file that a key stands for, or to its folder.
-fn add_file<P: ModuleProvider>(
+/// The bytes of the answers from `start` on and before `end`, by the answers' names: the number of
+/// addresses there that have an answer of the name.
+fn named_sizes<R: Runs, N: Naming<Answer = R::Found>>(
     alloc: Global,
-    runs: &mut FileRuns<'_, '_, P>,
-    table: &mut Counts<Named>,
-    key: &FileKey,
-    bytes: u64,
-    by_folder: bool,
-) -> Result<(), AllocError>
-    requires room { sum_of table.old + bytes < 2 ^ 64 }
-    ensures each { AddsPath by_folder (files_in P.provided runs.old.context) key.now bytes
-        table.old table.new result }
-    ensures total { AddsBytes (files_in P.provided runs.old.context) key.now bytes
-        table.old table.new result }
-    ensures same { files_in P.provided runs.new.context ≡ files_in P.provided runs.old.context }
-{
-    match runs.answer_of(alloc, key)? {
-        None => Ok(()),
-        Some(file) => add_bytes(alloc, table, file_name(&file, by_folder), bytes),
-    }
-}
-
-/// The bytes of the source files that keys stand for, by their paths, or by their folders.
-#[tactic(auto, using(crate::proofs::KeySums::entry_fits))]
-fn name_files<P: ModuleProvider>(
-    alloc: Global,
-    runs: &mut FileRuns<'_, '_, P>,
-    keys: &Counts<FileKey>,
-    by_folder: bool,
+    map: &AddressMap<'_>,
+    runs: &mut R,
+    naming: &N,
+    start: u32,
+    end: u32,
 ) -> Result<Counts<Named>, AllocError>
-    ensures each { SumsPaths by_folder (files_in P.provided runs.old.context) keys.now result }
-    ensures total { SumsBytes (files_in P.provided runs.old.context) keys.now result }
+    requires ordered { IsOrdered map.now }
+    requires order { start ≤ end }
+    ensures each { N.unsaid naming.now ≡ false → CountsNamed (N.name naming.now) map.now
+        (R.keyed runs.old) start end result }
+    ensures total { CountsBytes map.now (R.keyed runs.old) start end result }
 {
-    let mut table = Counts::new(alloc);
-    let _total = keys.total();
-    for (key, bytes) in keys.by_answer() {
-        add_file(alloc, runs, &mut table, key, *bytes, by_folder)?;
-    }
-    Ok(table)
+    let keys = count_keys(alloc, map, runs, start, end)?;
+    name_answers(alloc, runs, naming, &keys)
 }
 
 /// The bytes of functions from `start` on and before `end`, by the functions' names: the number of
@@ -123,8 +111,14 @@ pub fn function_sizes<P: ModuleProvider>(
     ensures total { CountsBytes map.now (keyed_in P.provided context.entry) start end result }
 {
     let mut runs = FunctionRuns::new(context);
-    let keys = count_keys(alloc, map, &mut runs, start, end)?;
-    name_functions(alloc, &mut runs, &keys, undecorate)
+    named_sizes(
+        alloc,
+        map,
+        &mut runs,
+        &FunctionNaming { undecorate },
+        start,
+        end,
+    )
 }
 
 /// The bytes of source files from `start` on and before `end`, by their paths or by their folders:
@@ -148,6 +142,5 @@ pub fn file_sizes<P: ModuleProvider>(
     ensures total { CountsBytes map.now (files_in P.provided context.entry) start end result }
 {
     let mut runs = FileRuns::new(context);
-    let keys = count_keys(alloc, map, &mut runs, start, end)?;
-    name_files(alloc, &mut runs, &keys, by_folder)
+    named_sizes(alloc, map, &mut runs, &FileNaming { by_folder }, start, end)
 }
