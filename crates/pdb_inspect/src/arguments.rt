@@ -83,7 +83,7 @@ Example:
 
 const FORMATS: &[&str] = &["text", "csv", "json"];
 
-const FUNCTION_KINDS: &[&str] = &["function", "file", "folder", "module", "library", "section"];
+const KINDS: &[&str] = &["function", "file", "folder", "module", "library", "section"];
 
 /// What sizes are by.
 #[derive(Clone, Copy)]
@@ -168,29 +168,101 @@ pub enum Given<'a> {
     Text(String, u8),
 }
 
-/// An argument of a command, beside its file and the form of the output.
+/// How an argument is given.
 #[derive(Clone, Copy)]
-enum Extra {
-    /// `--demangle`.
-    Demangle,
-    /// `FOLDER..`.
-    Folders,
-    /// `IMAGE`.
-    Image,
-    /// `NAME..`.
-    Names,
-    /// `NEW`.
-    New,
-    /// `--by KIND`.
-    By,
-    /// `--top COUNT`.
-    Top,
-    /// `--join-padding`.
-    JoinPadding,
+enum Kind {
+    /// By its name alone.
+    Flag,
+    /// By its name and any value, which help calls so.
+    Value(&'static str),
+    /// By its name and one of these values, which help calls so; the second text stands for none.
+    Choice(&'static str, &'static str, &'static [&'static str]),
+    /// As a word, which may be left out.
+    Word,
+    /// As a word.
+    NeededWord,
+    /// As any number of words.
+    Words,
+    /// As a word or more.
+    NeededWords,
 }
 
+/// An argument of a command.
+#[derive(Clone, Copy)]
+struct Argument {
+    name: &'static str,
+    kind: Kind,
+    help: &'static str,
+}
+
+const FILE: Argument = Argument {
+    name: "FILE",
+    kind: Kind::NeededWord,
+    help: "The program database: a .pdb file, in a big MSF container",
+};
+
+const OLD: Argument = Argument {
+    name: "OLD",
+    kind: Kind::NeededWord,
+    help: "The program database: a .pdb file, in a big MSF container",
+};
+
+const NEW: Argument = Argument {
+    name: "NEW",
+    kind: Kind::NeededWord,
+    help: "The database of the later build",
+};
+
+const FOLDERS: Argument = Argument {
+    name: "FOLDER",
+    kind: Kind::Words,
+    help: "Folders in which the ends of the paths are looked for",
+};
+
+const IMAGE: Argument = Argument {
+    name: "IMAGE",
+    kind: Kind::Word,
+    help: "An .exe or .dll file: whether it fits is written",
+};
+
+const NAMES: Argument = Argument {
+    name: "NAME",
+    kind: Kind::NeededWords,
+    help: "The name of a function, whole or without arguments, and maybe +OFFSET",
+};
+
+const FORMAT: Argument = Argument {
+    name: "format",
+    kind: Kind::Choice("FORM", "text", FORMATS),
+    help: "Lines for people, CSV, or JSON Lines",
+};
+
+const DEMANGLE: Argument = Argument {
+    name: "demangle",
+    kind: Kind::Flag,
+    help: "Writes decorated names of Visual C++, ?f@@YAXXZ, as people read them, f(void)",
+};
+
+const BY: Argument = Argument {
+    name: "by",
+    kind: Kind::Choice("KIND", "function", KINDS),
+    help: "What bytes are counted by",
+};
+
+const TOP: Argument = Argument {
+    name: "top",
+    kind: Kind::Value("COUNT"),
+    help: "Lists so many at most, and what the others have together",
+};
+
+const JOIN_PADDING: Argument = Argument {
+    name: "join-padding",
+    kind: Kind::Flag,
+    help: "Counts bytes without a procedure for the function before them in their contribution",
+};
+
 /// A command: its task, its name, what it does, its help, the names of its file and of the words
-/// after that, and its other arguments.
+/// after that, and its arguments.
 struct Described {
     task: Task,
     name: &'static str,
@@ -198,7 +270,7 @@ struct Described {
     text: &'static str,
     file: &'static str,
     others: &'static str,
-    extras: &'static [Extra],
+    arguments: &'static [Argument],
 }
 
 /// The commands, in the order of the help.
@@ -210,7 +282,7 @@ const COMMANDS: &[Described] = &[
         text: FUNCTIONS_TEXT,
         file: "FILE",
         others: "",
-        extras: &[Extra::Demangle],
+        arguments: &[FILE, FORMAT, DEMANGLE],
     },
     Described {
         task: Task::Lines,
@@ -219,7 +291,7 @@ const COMMANDS: &[Described] = &[
         text: LINES_TEXT,
         file: "FILE",
         others: "",
-        extras: &[],
+        arguments: &[FILE, FORMAT],
     },
     Described {
         task: Task::Modules,
@@ -228,7 +300,7 @@ const COMMANDS: &[Described] = &[
         text: MODULES_TEXT,
         file: "FILE",
         others: "",
-        extras: &[],
+        arguments: &[FILE, FORMAT],
     },
     Described {
         task: Task::Sources,
@@ -237,7 +309,7 @@ const COMMANDS: &[Described] = &[
         text: SOURCES_TEXT,
         file: "FILE",
         others: "FOLDER",
-        extras: &[Extra::Folders],
+        arguments: &[FILE, FOLDERS, FORMAT],
     },
     Described {
         task: Task::Info,
@@ -246,7 +318,7 @@ const COMMANDS: &[Described] = &[
         text: INFO_TEXT,
         file: "FILE",
         others: "IMAGE",
-        extras: &[Extra::Image],
+        arguments: &[FILE, IMAGE, FORMAT],
     },
     Described {
         task: Task::Locate,
@@ -255,7 +327,7 @@ const COMMANDS: &[Described] = &[
         text: LOCATE_TEXT,
         file: "FILE",
         others: "NAME",
-        extras: &[Extra::Names],
+        arguments: &[FILE, NAMES, FORMAT],
     },
     Described {
         task: Task::Sizes,
@@ -264,7 +336,7 @@ const COMMANDS: &[Described] = &[
         text: SIZES_TEXT,
         file: "FILE",
         others: "",
-        extras: &[Extra::By, Extra::Top, Extra::JoinPadding, Extra::Demangle],
+        arguments: &[FILE, FORMAT, BY, TOP, JOIN_PADDING, DEMANGLE],
     },
     Described {
         task: Task::Diff,
@@ -273,108 +345,35 @@ const COMMANDS: &[Described] = &[
         text: DIFF_TEXT,
         file: "OLD",
         others: "NEW",
-        extras: &[
-            Extra::New,
-            Extra::By,
-            Extra::Top,
-            Extra::JoinPadding,
-            Extra::Demangle,
-        ],
+        arguments: &[OLD, NEW, FORMAT, BY, TOP, JOIN_PADDING, DEMANGLE],
     },
 ];
 
-/// The option for the form of the output.
-fn format_option<'a>(alloc: Global) -> Arg<'a> {
-    Arg::new(alloc, "format")
-        .long("format")
-        .value_name("FORM")
-        .value_parser(FORMATS)
-        .default_value("text")
-        .help("Lines for people, CSV, or JSON Lines")
-}
-
-/// A flag with a long name.
-fn flag<'a>(alloc: Global, name: &'a str, help: &'a str) -> Arg<'a> {
-    Arg::new(alloc, name)
-        .long(name)
-        .action(ArgAction::SetTrue)
-        .help(help)
-}
-
-/// An argument that may be given any number of times.
-fn many<'a>(alloc: Global, name: &'a str, help: &'a str) -> Arg<'a> {
-    Arg::new(alloc, name)
-        .num_args(0..)
-        .action(ArgAction::Append)
-        .help(help)
-}
-
-/// The option for what sizes are by.
-fn by_option<'a>(alloc: Global) -> Arg<'a> {
-    Arg::new(alloc, "by")
-        .long("by")
-        .value_name("KIND")
-        .value_parser(FUNCTION_KINDS)
-        .default_value("function")
-        .help("What bytes are counted by")
-}
-
 /// An argument of a command.
-fn argument_of<'a>(alloc: Global, extra: Extra) -> Arg<'a> {
-    match extra {
-        Extra::Demangle => flag(
-            alloc,
-            "demangle",
-            "Writes decorated names of Visual C++, ?f@@YAXXZ, as people read them, f(void)",
-        ),
-        Extra::Folders => many(
-            alloc,
-            "FOLDER",
-            "Folders in which the ends of the paths are looked for",
-        ),
-        Extra::Image => Arg::new(alloc, "IMAGE").help(
-            "An .exe or .dll file: whether it fits is written",
-        ),
-        Extra::Names => many(
-            alloc,
-            "NAME",
-            "The name of a function, whole or without arguments, and maybe +OFFSET",
-        )
-        .num_args(1..)
-        .required(true),
-        Extra::New => Arg::new(alloc, "NEW")
-            .required(true)
-            .help("The database of the later build"),
-        Extra::By => by_option(alloc),
-        Extra::Top => Arg::new(alloc, "top")
-            .long("top")
-            .value_name("COUNT")
-            .help("Lists so many at most, and what the others have together"),
-        Extra::JoinPadding => flag(
-            alloc,
-            "join-padding",
-            "Counts bytes without a procedure for the function before them in their contribution",
-        ),
+fn argument_of<'a>(alloc: Global, argument: &Argument) -> Arg<'a> {
+    let given = Arg::new(alloc, argument.name).help(argument.help);
+    match argument.kind {
+        Kind::Flag => given.long(argument.name).action(ArgAction::SetTrue),
+        Kind::Value(name) => given.long(argument.name).value_name(name),
+        Kind::Choice(name, usual, values) => given
+            .long(argument.name)
+            .value_name(name)
+            .value_parser(values)
+            .default_value(usual),
+        Kind::Word => given,
+        Kind::NeededWord => given.required(true),
+        Kind::Words => given.num_args(0..).action(ArgAction::Append),
+        Kind::NeededWords => given.num_args(1..).action(ArgAction::Append).required(true),
     }
 }
 
-/// A command with its file and the form of the output.
-fn file_command<'a>(alloc: Global, described: &Described) -> Result<Command<'a>, AllocError> {
-    let file = Arg::new(alloc, described.file).required(true).help(
-        "The program database: a .pdb file, in a big MSF container",
-    );
-    Command::new(alloc, described.name)
-        .about(described.about)
-        .after_help(described.text)
-        .arg(file)?
-        .arg(format_option(alloc))
-}
-
-/// A command with all of its arguments.
+/// A command with its arguments.
 fn command_of<'a>(alloc: Global, described: &Described) -> Result<Command<'a>, AllocError> {
-    let mut command = file_command(alloc, described)?;
-    for extra in described.extras {
-        command = command.arg(argument_of(alloc, *extra))?;
+    let mut command = Command::new(alloc, described.name)
+        .about(described.about)
+        .after_help(described.text);
+    for argument in described.arguments {
+        command = command.arg(argument_of(alloc, argument))?;
     }
     Ok(command)
 }

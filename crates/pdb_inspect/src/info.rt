@@ -1,10 +1,10 @@
 //! What a database says of itself.
 
+use crate::arguments::Request;
 use crate::contributions::{information_of, modules_of};
 use crate::fault::{Fault, file_fault, read_fault};
-use crate::loaded::{Loaded, Needs, load_file};
+use crate::loaded::{Loaded, Needs, load_with_source};
 use crate::modules::compiler;
-use crate::opened_file::open;
 use crate::output::{Output, text_or_unknown};
 use bumpalo::Bump;
 use pdb_addr2line::{FileOnDemand, PdbIdentity};
@@ -78,7 +78,7 @@ const COLUMNS: &[Column] = &[
 
 /// What a database's file says of itself.
 #[derive(Clone, Copy)]
-pub struct FileFacts {
+struct FileFacts {
     identity: PdbIdentity,
     page_size: u32,
     streams: u32,
@@ -163,10 +163,7 @@ fn facts_of<F: FileExt + Drop>(
 }
 
 /// Loads the database of the file at a path, for all of its modules, and what the file says.
-///
-/// # Errors
-/// `Read`, `Load`, `OutOfMemory`.
-pub fn load_with_facts<'a, S: Files + AllocGlobal>(
+fn load_with_facts<'a, S: Files + AllocGlobal>(
     rt: &S,
     arena: &'a Bump,
     path: &'a str,
@@ -174,10 +171,11 @@ pub fn load_with_facts<'a, S: Files + AllocGlobal>(
 where
     S::File: FileExt,
 {
-    let source = open(rt, arena, path)?;
-    let (loaded, mut source) = load_file(rt.alloc(), path, source, Needs::Modules)?;
-    let facts = facts_of(rt.alloc(), path, &mut source)?;
-    Ok((loaded, facts))
+    let (loaded, mut source) = load_with_source(rt, arena, path, Needs::Modules)?;
+    match facts_of(rt.alloc(), path, &mut source) {
+        Ok(facts) => Ok((loaded, facts)),
+        Err(fault) => Err(fault),
+    }
 }
 
 /// How many procedures all modules have, and how many public symbols the database has.
@@ -348,14 +346,17 @@ fn write_row<'r, W: Write + Drop>(
 ///
 /// # Errors
 /// Why it isn't written.
-pub fn write<W: Write + Drop>(
-    rt: &(impl Files + AllocGlobal),
-    loaded: Loaded<'_>,
-    facts: FileFacts,
-    image: Option<&str>,
+pub fn write<S: Files + AllocGlobal, W: Write + Drop>(
+    rt: &S,
+    arena: &Bump,
+    request: &Request<'_>,
     output: &mut Output<W>,
-) -> Result<(), Fault> {
-    let fits = fits_if_given(rt, image, facts.identity)?;
+) -> Result<(), Fault>
+where
+    S::File: FileExt,
+{
+    let (loaded, facts) = load_with_facts(rt, arena, request.file)?;
+    let fits = fits_if_given(rt, request.other(), facts.identity)?;
     let found = gathered(rt.alloc(), loaded, facts.identity, fits)?;
-    write_row(loaded.path, facts, &found, output)
+    write_row(request.file, facts, &found, output)
 }

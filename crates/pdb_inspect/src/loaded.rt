@@ -4,7 +4,7 @@ ghost use Rattle.std.specs.Prelude.{IfOk};
 ghost use Rattle.pdb_addresses.specs.Addresses.{IsOrdered};
 
 use crate::fault::{Fault, file_fault, load_fault, read_fault};
-use crate::opened_file::open;
+use crate::opened_file::{OpenedFile, open};
 use bumpalo::Bump;
 use pdb_addr2line::{
     ContributionOrder, FileContext, FileOnDemand, FileSymbolizer, Held, KeptModules, LoadFault,
@@ -78,10 +78,7 @@ fn loaded_by<'a, F: Drop>(
 }
 
 /// Loads the database of a file, and returns the file too, with what was read of it.
-///
-/// # Errors
-/// `Read`, `Load`, `OutOfMemory`.
-pub fn load_file<'a, F: FileExt + Drop>(
+fn load_file<'a, F: FileExt + Drop>(
     alloc: Global,
     path: &'a str,
     source: FileOnDemand<'a, F>,
@@ -100,10 +97,29 @@ pub fn load_file<'a, F: FileExt + Drop>(
     loaded_by(path, symbolizer)
 }
 
+/// Loads the database of the file at a path, and returns the file too, with what was read of it.
+///
+/// # Errors
+/// `Read`, `Load`, `OutOfMemory`.
+pub fn load_with_source<'a, S: Files + AllocGlobal>(
+    rt: &S,
+    arena: &'a Bump,
+    path: &'a str,
+    needs: Needs,
+) -> Result<(Loaded<'a>, FileOnDemand<'a, OpenedFile<S::File>>), Fault>
+where
+    S::File: FileExt,
+{
+    match open(rt, arena, path) {
+        Ok(source) => load_file(rt.alloc(), path, source, needs),
+        Err(fault) => Err(fault),
+    }
+}
+
 /// Loads the database of the file at a path.
 ///
 /// # Errors
-/// As [`load_file`].
+/// As [`load_with_source`].
 pub fn load<'a, S: Files + AllocGlobal>(
     rt: &S,
     arena: &'a Bump,
@@ -113,10 +129,13 @@ pub fn load<'a, S: Files + AllocGlobal>(
 where
     S::File: FileExt,
 {
-    let source = open(rt, arena, path)?;
-    let (loaded, source) = load_file(rt.alloc(), path, source, needs)?;
-    drop(source);
-    Ok(loaded)
+    match load_with_source(rt, arena, path, needs) {
+        Ok((loaded, source)) => {
+            drop(source);
+            Ok(loaded)
+        }
+        Err(fault) => Err(fault),
+    }
 }
 
 impl<'a> Loaded<'a> {
@@ -195,7 +214,7 @@ fn names_of<F: Drop>(
 /// table ([`names_of`]).
 ///
 /// # Errors
-/// As [`load_file`].
+/// As [`load_with_source`].
 pub fn load_with_names<'a, S: Files + AllocGlobal>(
     rt: &S,
     arena: &'a Bump,
@@ -204,8 +223,9 @@ pub fn load_with_names<'a, S: Files + AllocGlobal>(
 where
     S::File: FileExt,
 {
-    let source = open(rt, arena, path)?;
-    let (loaded, source) = load_file(rt.alloc(), path, source, Needs::Modules)?;
-    let names = names_of(rt.alloc(), &source)?;
-    Ok((loaded, names))
+    let (loaded, source) = load_with_source(rt, arena, path, Needs::Modules)?;
+    match names_of(rt.alloc(), &source) {
+        Ok(names) => Ok((loaded, names)),
+        Err(fault) => Err(fault),
+    }
 }

@@ -24,7 +24,7 @@ mod sources;
 use arguments::{Given, Request, Task, read_arguments};
 use bumpalo::Bump;
 use fault::Fault;
-use loaded::{Loaded, load, load_with_names};
+use loaded::{Loaded, load};
 use output::Output;
 use pdb_listings::Size;
 use progress::Progress;
@@ -128,21 +128,14 @@ where
     S::File: FileExt,
 {
     match request.task {
-        Task::Sources => {
-            let (loaded, names) = load_with_names(rt, arena, request.file)?;
-            let folders = request.others.as_slice();
-            sources::write(rt, loaded, &names, folders, output, progress)?;
-        }
-        Task::Info => {
-            let (loaded, facts) = info::load_with_facts(rt, arena, request.file)?;
-            info::write(rt, loaded, facts, request.other(), output)?;
-        }
-        Task::Diff => write_changes(rt, arena, request, output, progress)?,
+        Task::Sources => sources::write(rt, arena, request, output, progress),
+        Task::Info => info::write(rt, arena, request, output),
+        Task::Diff => write_changes(rt, arena, request, output, progress),
         _ => {
             let loaded = load(rt, arena, request.file, needs_of(request.sizes.by))?;
             return write_list(rt, loaded, request, output);
         }
-    }
+    }?;
     Ok(true)
 }
 

@@ -50,16 +50,22 @@ fn add(alloc: Global, table: &mut Counts<Named>, name: &str, bytes: u64) -> Resu
     add_bytes(alloc, table, name, bytes)
 }
 
-/// Bytes by function.
-fn by_function(
+/// Bytes by function, by source file, or by its folder.
+fn by_code(
     alloc: Global,
     loaded: Loaded<'_>,
+    by: By,
     undecorate: bool,
 ) -> Result<Counts<Named>, Fault> {
     let map = loaded.address_map(alloc)?;
     let end = end_of(map);
     let context = loaded.context(alloc)?;
-    Ok(function_sizes(alloc, map, context, 0, end, undecorate)?)
+    let sizes = match by {
+        By::File => file_sizes(alloc, map, context, 0, end, false),
+        By::Folder => file_sizes(alloc, map, context, 0, end, true),
+        _ => function_sizes(alloc, map, context, 0, end, undecorate),
+    };
+    Ok(sizes?)
 }
 
 /// Bytes by function, where padding counts for the function before it in its contribution.
@@ -71,14 +77,6 @@ fn by_function_joined(
     let contributions = contributions_of(alloc, loaded)?;
     let context = loaded.context(alloc)?;
     Ok(joined_sizes(alloc, context, &contributions, undecorate)?)
-}
-
-/// Bytes by source file, or by its folder.
-fn by_file(alloc: Global, loaded: Loaded<'_>, by_folder: bool) -> Result<Counts<Named>, Fault> {
-    let map = loaded.address_map(alloc)?;
-    let end = end_of(map);
-    let context = loaded.context(alloc)?;
-    Ok(file_sizes(alloc, map, context, 0, end, by_folder)?)
 }
 
 /// Adds bytes of a module to its name, or to that of its library.
@@ -153,9 +151,7 @@ pub fn sizes_of(
 ) -> Result<Vec<Size>, Fault> {
     let table = match options.by {
         By::Function if options.join_padding => by_function_joined(alloc, loaded, undecorate),
-        By::Function => by_function(alloc, loaded, undecorate),
-        By::File => by_file(alloc, loaded, false),
-        By::Folder => by_file(alloc, loaded, true),
+        By::Function | By::File | By::Folder => by_code(alloc, loaded, options.by, undecorate),
         By::Module => by_module(alloc, loaded, false),
         By::Library => by_module(alloc, loaded, true),
         By::Section => by_section(alloc, loaded),

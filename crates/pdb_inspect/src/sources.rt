@@ -1,16 +1,19 @@
 //! Source files, compared with those that a database was built of.
 
+use crate::arguments::Request;
 use crate::contributions::{information_of, modules_of};
 use crate::fault::{Fault, read_fault};
-use crate::loaded::Loaded;
+use crate::loaded::{Loaded, load_with_names};
 use crate::output::Output;
 use crate::progress::Progress;
+use bumpalo::Bump;
 use pdb_container::StringTable;
 use pdb_listings::{Column, SourceFile, StoredSum, Value, Verdict, append_sources, verdict_of};
 use std::alloc::{AllocError, Global};
 use std::cmp::Ordering;
 use std::fs::{self, OpenFile};
 use std::io::{ErrorKind, Read, Write};
+use std::os::unix::fs::FileExt;
 use std::rt::Files;
 
 const COLUMNS: &[Column] = &[
@@ -190,20 +193,14 @@ fn check_folders(rt: &(impl Files + AllocGlobal), folders: &[&str]) -> Result<()
     Ok(())
 }
 
-/// Writes what is said of each source file of a database.
-///
-/// # Errors
-/// Why not all are written.
-pub fn write<W: Write + Drop, E: Write>(
+/// Writes what is said of each of these source files.
+fn write_verdicts<W: Write + Drop, E: Write>(
     rt: &(impl Files + AllocGlobal),
-    loaded: Loaded<'_>,
-    names: &Option<StringTable<'_>>,
+    sources: &[SourceFile],
     folders: &[&str],
     output: &mut Output<W>,
     progress: &mut Progress<E>,
 ) -> Result<(), Fault> {
-    check_folders(rt, folders)?;
-    let sources = all_sources(rt.alloc(), loaded, names)?;
     output.header(COLUMNS)?;
     for (done, source) in sources.iter().enumerate() {
         progress.files(done, sources.len());
@@ -213,4 +210,25 @@ pub fn write<W: Write + Drop, E: Write>(
     }
     progress.end();
     Ok(())
+}
+
+/// Writes what is said of each source file of a database.
+///
+/// # Errors
+/// Why not all are written.
+pub fn write<S: Files + AllocGlobal, W: Write + Drop, E: Write>(
+    rt: &S,
+    arena: &Bump,
+    request: &Request<'_>,
+    output: &mut Output<W>,
+    progress: &mut Progress<E>,
+) -> Result<(), Fault>
+where
+    S::File: FileExt,
+{
+    let (loaded, names) = load_with_names(rt, arena, request.file)?;
+    let folders = request.others.as_slice();
+    check_folders(rt, folders)?;
+    let sources = all_sources(rt.alloc(), loaded, &names)?;
+    write_verdicts(rt, &sources, folders, output, progress)
 }
