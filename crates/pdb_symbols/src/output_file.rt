@@ -10,10 +10,14 @@ use std::fs;
 use std::fs::{File, Metadata};
 use std::io::{self, ErrorKind};
 use std::os::unix::fs::MetadataExt;
+use std::path::Path;
 use std::rt::Files;
 
 /// The number of names beside a path that are tried.
 const NAMES: u32 = 1000;
+
+/// The number of links in a row that are followed, as Linux does.
+const LINKS: u32 = 40;
 
 /// The outcome of a write, with a failure as a fault.
 pub fn write_fault<T>(outcome: io::Result<T>) -> Result<T, SymbolsFault>
@@ -43,8 +47,31 @@ pub struct OutputFile<F: Drop> {
     renaming: Option<Renaming>,
 }
 
-/// Whether the file at a path is written into: a link, a device, a FIFO. A regular file is
-/// replaced.
+/// The path that the link at a path leads to.
+fn target_of<S: Files + AllocGlobal>(rt: &S, link: &str) -> io::Result<String> {
+    let target = fs::read_link(rt, link)?;
+    let Some(folder) = Path::new(link).parent() else {
+        return Ok(target.into_string());
+    };
+    match folder.join(rt.alloc(), target.as_path()) {
+        Ok(path) => Ok(path.into_string()),
+        Err(error) => Err(error.into()),
+    }
+}
+
+/// The path that the links at a path lead to; the path itself where it is none of a link.
+fn followed<S: Files + AllocGlobal>(rt: &S, path: String) -> io::Result<String> {
+    let mut path = path;
+    for _ in 0..LINKS {
+        match fs::symlink_metadata(rt, path.as_str()) {
+            Ok(metadata) if metadata.is_symlink() => path = target_of(rt, path.as_str())?,
+            _ => return Ok(path),
+        }
+    }
+    Err(ErrorKind::FilesystemLoop.into())
+}
+
+/// Whether the file at a path is written into: a device, a FIFO. A regular file is replaced.
 fn is_written_into(rt: &impl Files, path: &str) -> Result<bool, SymbolsFault>
     ensures { IfErr result FailsToWrite }
 {
@@ -85,8 +112,8 @@ fn create_beside<S: Files + AllocGlobal>(
     Err(SymbolsFault::of_write(ErrorKind::AlreadyExists))
 }
 
-/// Opens the file at a path for writing. A link, a device or a FIFO is written into. A regular
-/// file, which may be there or not, is written beside the path.
+/// Opens the file at a path, or where its links lead, for writing. A device or a FIFO is written
+/// into. A regular file, which may be there or not, is written beside its path.
 ///
 /// # Errors
 /// `Write`, or out of memory.
@@ -96,6 +123,7 @@ pub fn open_output<S: Files + AllocGlobal>(
 ) -> Result<OutputFile<S::File>, SymbolsFault>
     ensures { IfErr result FailsToWrite }
 {
+    let path = write_fault(followed(rt, path))?;
     if !is_written_into(rt, path.as_str())? {
         return create_beside(rt, path);
     }
