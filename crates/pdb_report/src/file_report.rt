@@ -22,6 +22,10 @@ use std::io::{ErrorKind, Read, Write};
 use std::marker::{Model, PhantomData};
 use std::os::unix::fs::FileExt;
 
+/// The number of lines up to which a read is made ready for, even where nothing was missing the last
+/// time: to find the modules of many lines takes a twentieth of the time of their answers.
+const SHORT_READ: usize = 1000;
+
 /// A file that is asked for the answers to lines, whose names are made with the default flags; room
 /// for a text; whether nothing was missing when the file was last to be read; how reading it
 /// failed, if it did; and the form of texts.
@@ -134,7 +138,8 @@ impl<'a, F: FileExt + Drop, L: LineForm> Answers for FileLines<'a, F, L> {
     }
 
     fn prepare(&mut self, alloc: Global, requests: &[Request<L::Start>]) {
-        if self.is_ready || !self.symbolizer.reads_exactly() {
+        let is_long = requests.len() > SHORT_READ;
+        if self.is_ready && is_long || !self.symbolizer.reads_exactly() {
             return;
         }
         if let Ok(numbers) = modules_of(alloc, &self.symbolizer, requests) {
