@@ -1,6 +1,7 @@
 //! The files of a run, each loaded once, and the answers to lines by them.
 
 use crate::arguments::Arguments;
+use crate::choices::Choices;
 use crate::database::open;
 use crate::loaded::{AskedAddress, FileAnswers};
 use crate::open_error::OpenError;
@@ -55,6 +56,31 @@ fn shown_part(line: &[u8]) -> &[u8] {
     }
 }
 
+/// Whether nothing is said of a line that is no request.
+fn is_silent(fault: RequestFault) -> bool {
+    matches!(fault, RequestFault::EmptyLine | RequestFault::SymbolName)
+}
+
+/// The object that a request is about.
+#[derive(Clone, Copy)]
+enum Subject<'n> {
+    /// The file of this name.
+    File(&'n [u8]),
+    /// The object that has this build ID.
+    BuildId(&'n [u8]),
+}
+
+/// The object that a request is about, by the file that it names and by the choices.
+fn subject_of<'n>(choices: &Choices<'n>, file: RequestedFile<'n>) -> Subject<'n> {
+    match (file, choices.object, choices.build_id) {
+        (RequestedFile::Named(name), _, _) => Subject::File(name),
+        (RequestedFile::BuildId(hash), _, _) => Subject::BuildId(hash),
+        (RequestedFile::Given, Some(name), _) => Subject::File(name.as_bytes()),
+        (RequestedFile::Given, None, Some(hash)) => Subject::BuildId(hash.as_bytes()),
+        (RequestedFile::Given, None, None) => Subject::File(b""),
+    }
+}
+
 /// Reports why a line is no request. Of an empty line and a symbol's name nothing is said.
 fn tell_fault(
     rt: &(impl Eprint + AllocGlobal),
@@ -62,7 +88,7 @@ fn tell_fault(
     line: &[u8],
     fault: RequestFault,
 ) -> Result<(), AllocError> {
-    if matches!(fault, RequestFault::EmptyLine | RequestFault::SymbolName) {
+    if is_silent(fault) {
         return Ok(());
     }
     let line = String::from_utf8_lossy(rt.alloc(), shown_part(line))?;
@@ -262,18 +288,46 @@ impl<'a, F: FileExt + Drop> AskedFiles<'a, F> {
         request: LineRequest<'_>,
         output: &mut Vec<u8>,
     ) -> Result<(), AllocError> {
-        let choices = self.arguments.choices;
-        match (request.file, choices.object, choices.build_id) {
-            (RequestedFile::Named(name), _, _) => self.append_by(rt, name, request, output),
-            (RequestedFile::Given, Some(name), _) => {
-                self.append_by(rt, name.as_bytes(), request, output)
+        match subject_of(self.arguments.choices, request.file) {
+            Subject::File(name) => self.append_by(rt, name, request, output),
+            Subject::BuildId(hash) => self.append_build_id(rt, hash, request, output),
+        }
+    }
+
+    /// Loads the file of a line that is answered next, and notes the module that holds its address.
+    /// Returns whether lines after it may be looked at, too: not after one that is reported, since
+    /// what is said of files keeps its turn.
+    ///
+    /// # Errors
+    /// Where memory ran out.
+    pub fn expect(
+        &mut self,
+        rt: &(impl Files<File = F> + Eprint + AllocGlobal),
+        line: &[u8],
+    ) -> Result<bool, AllocError> {
+        let arguments = self.arguments;
+        let request = match read_request(line, arguments.form) {
+            Ok(request) => request,
+            Err(fault) => return Ok(is_silent(fault)),
+        };
+        let Subject::File(name) = subject_of(arguments.choices, request.file) else {
+            return Ok(false);
+        };
+        let number = self.ask(rt, name)?;
+        match (request.command, self.files.get_mut(number)) {
+            (Command::Code, Some(AskedFile { loaded: Ok(loaded), .. })) => {
+                loaded.expect(arguments, request.address)?;
             }
-            (RequestedFile::Given, None, None) => self.append_by(rt, b"", request, output),
-            (RequestedFile::BuildId(hash), _, _) => {
-                self.append_build_id(rt, hash, request, output)
-            }
-            (RequestedFile::Given, None, Some(hash)) => {
-                self.append_build_id(rt, hash.as_bytes(), request, output)
+            _ => {}
+        }
+        Ok(true)
+    }
+
+    /// Reads the modules that were noted of each file at once.
+    pub fn read_expected(&mut self, alloc: Global) {
+        for file in &mut self.files {
+            if let Ok(loaded) = &mut file.loaded {
+                loaded.read_expected(alloc);
             }
         }
     }

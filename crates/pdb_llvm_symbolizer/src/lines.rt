@@ -4,7 +4,8 @@ ghost use Rattle.std.specs.Prelude.{[]};
 
 use crate::arguments::Arguments;
 use crate::files::AskedFiles;
-use pdb_engine::{Answers, InputFault, LongStart, Watched, write_all, write_fault};
+use pdb_engine::{Answers, InputFault, LineStart, LongStart, Request, Watched};
+use pdb_engine::{write_all, write_fault};
 use pdb_llvm_protocol::{Style, TextOptions};
 use std::alloc::{AllocError, Global};
 use std::io::Write;
@@ -38,6 +39,16 @@ where
 
     fn place(&self, _line: &[u8]) -> u32 {
         0
+    }
+
+    fn prepare(&mut self, alloc: Global, requests: &[Request<LongStart>]) {
+        for request in requests {
+            match self.files.expect(self.system, request.line.bytes()) {
+                Ok(true) => {}
+                Ok(false) | Err(_) => break,
+            }
+        }
+        self.files.read_expected(alloc);
     }
 
     fn answer(
@@ -86,6 +97,17 @@ where
     S: Files<File = F> + Eprint + AllocGlobal,
     F: FileExt + Drop,
 {
+    /// Makes ready for the addresses among the arguments, before the first of them is answered.
+    fn prepare_inputs(&mut self, inputs: &[&str]) {
+        for input in inputs {
+            match self.files.expect(self.system, input.as_bytes()) {
+                Ok(true) => {}
+                Ok(false) | Err(_) => break,
+            }
+        }
+        self.files.read_expected(self.system.alloc());
+    }
+
     /// Makes the answer to an address among the arguments, with the mark before it.
     fn make_answer(&mut self, mark: &str, address: &str) -> Result<(), AllocError> {
         self.room.clear();
@@ -120,6 +142,7 @@ pub fn write_answers<S: Files<File = F> + Eprint + AllocGlobal, F: FileExt + Dro
     arguments: &Arguments<'_>,
     writer: &mut Watched<W>,
 ) -> Result<(), InputFault> {
+    answers.prepare_inputs(arguments.choices.inputs.as_slice());
     let marks = marks_of(arguments.texts);
     let mut mark = marks.first;
     for address in &arguments.choices.inputs {

@@ -17,6 +17,7 @@ use pdb_llvm_protocol::{
 };
 use std::alloc::{AllocError, Global};
 use std::io::{self, ErrorKind};
+use std::mem;
 use std::os::unix::fs::FileExt;
 
 /// What answers the addresses of a file.
@@ -25,6 +26,8 @@ pub struct FileAnswers<'a, F: Drop> {
     image_base: u64,
     file: FileSymbolizer<'a, F>,
     texts: AddressTexts<'a>,
+    /// The modules that hold addresses which are asked for next; some may be repeated.
+    expected: Vec<usize>,
     /// How reading the file failed after it was loaded, if it did.
     failed: Option<ErrorKind>,
 }
@@ -171,6 +174,7 @@ impl<'a, F: FileExt + Drop> FileAnswers<'a, F> {
                 names: FunctionNames::new(held, map),
                 columns: Columns::new(alloc, held),
             },
+            expected: Vec::new(alloc),
             failed: None,
         }
     }
@@ -209,6 +213,30 @@ impl<'a, F: FileExt + Drop> FileAnswers<'a, F> {
                 self.failed = Some(kind);
                 false
             }
+        }
+    }
+
+    /// Notes the module that holds an address which is asked for next.
+    ///
+    /// # Errors
+    /// Where memory ran out.
+    pub fn expect(&mut self, arguments: &Arguments<'_>, address: u64) -> Result<(), AllocError> {
+        let (adjust, relative) = (arguments.adjust, arguments.choices.relative);
+        let Some(rva) = rva_of(address, self.image_base, adjust, relative) else {
+            return Ok(());
+        };
+        if let Some(number) = self.file.module_at(rva) {
+            self.expected.push(number)?;
+        }
+        Ok(())
+    }
+
+    /// Reads the modules that were noted, as far as they are missing, at once.
+    pub fn read_expected(&mut self, alloc: Global) {
+        let numbers = mem::replace(&mut self.expected, Vec::new(alloc));
+        if self.file.reads_exactly() && !numbers.is_empty() {
+            self.file.ask(numbers);
+            self.read_missing(alloc);
         }
     }
 
