@@ -126,29 +126,6 @@ fn database_beside<'a, F: FileExt + Drop>(
     }
 }
 
-/// The file of an image's database: that beside the image, or in a store, or at the path that the
-/// image names.
-fn database_of_image<'a, F: FileExt + Drop>(
-    rt: &(impl Files<File = F> + AllocGlobal),
-    arena: &'a Bump,
-    file: &str,
-    record: &CodeView<'_>,
-    stores: &[&str],
-) -> Result<FileOnDemand<'a, F>, OpenError> {
-    let path = record.path().to_string(rt.alloc())?;
-    match database_beside(rt, arena, file, file_name(&path)) {
-        Ok(Some(read)) => Ok(read),
-        Ok(None) => stored_database(rt, arena, stores, &path, record.identity()),
-        Err(error) => Err(error),
-    }
-}
-
-/// The bytes of an image, as far as its headers and its sections' data reach.
-fn image_bytes(rt: &(impl Files + AllocGlobal), path: &str) -> io::Result<Vec<u8>> {
-    let (mut file, _) = open_regular(rt, path)?;
-    read_image(rt.alloc(), &mut file)
-}
-
 /// Checks that a database has the identity that an image says.
 fn check_identity<F: FileExt + Drop>(
     alloc: Global,
@@ -162,6 +139,65 @@ fn check_identity<F: FileExt + Drop>(
     }
 }
 
+/// A database, if it has this identity.
+fn of_identity<'a, F: FileExt + Drop>(
+    alloc: Global,
+    mut file: FileOnDemand<'a, F>,
+    wanted: PdbIdentity,
+) -> Result<FileOnDemand<'a, F>, OpenError> {
+    match check_identity(alloc, &mut file, wanted) {
+        Ok(()) => Ok(file),
+        Err(error) => Err(error),
+    }
+}
+
+/// The file of an image's database: that beside the image, or in a store, or at the path that the
+/// image names. One beside it that can't be read or is of another build counts only where there is
+/// no other.
+fn database_of_image<'a, F: FileExt + Drop>(
+    rt: &(impl Files<File = F> + AllocGlobal),
+    arena: &'a Bump,
+    file: &str,
+    record: &CodeView<'_>,
+    stores: &[&str],
+) -> Result<FileOnDemand<'a, F>, OpenError> {
+    let (alloc, wanted) = (rt.alloc(), record.identity());
+    let path = record.path().to_string(alloc)?;
+    let refusal = match database_beside(rt, arena, file, file_name(&path)) {
+        Ok(Some(read)) => match of_identity(alloc, read, wanted) {
+            Ok(read) => return Ok(read),
+            Err(error) if error.is_out_of_memory() => return Err(error),
+            Err(error) => Some(error),
+        },
+        Ok(None) => None,
+        Err(error) => return Err(error),
+    };
+    match stored_database(rt, arena, stores, &path, wanted) {
+        Ok(read) => of_identity(alloc, read, wanted),
+        Err(error) if error.is_out_of_memory() => Err(error),
+        Err(error) => Err(refusal.unwrap_or(error)),
+    }
+}
+
+/// The bytes of an image, as far as its headers and its sections' data reach.
+fn image_bytes(rt: &(impl Files + AllocGlobal), path: &str) -> io::Result<Vec<u8>> {
+    let (mut file, _) = open_regular(rt, path)?;
+    read_image(rt.alloc(), &mut file)
+}
+
+/// The file of an image's database that is given.
+fn given_database<'a, F: FileExt + Drop>(
+    rt: &(impl Files<File = F> + AllocGlobal),
+    arena: &'a Bump,
+    path: &str,
+    wanted: PdbIdentity,
+) -> Result<FileOnDemand<'a, F>, OpenError> {
+    match database_at(rt, arena, path) {
+        Ok(read) => of_identity(rt.alloc(), read, wanted),
+        Err(error) => Err(error),
+    }
+}
+
 /// Reads the database of an image: the one that is given, or otherwise the image's own.
 fn open_image<'a, F: FileExt + Drop>(
     rt: &(impl Files<File = F> + AllocGlobal),
@@ -172,29 +208,51 @@ fn open_image<'a, F: FileExt + Drop>(
     let bytes = image_bytes(rt, file)?;
     let (image_base, record) = image_record(bytes.as_slice())?;
     let database = match arguments.choices.database {
-        Some(given) => database_at(rt, arena, given),
+        Some(given) => given_database(rt, arena, given, record.identity()),
         None => database_of_image(rt, arena, file, &record, &arguments.choices.stores),
     };
-    let mut database = database?;
-    match check_identity(rt.alloc(), &mut database, record.identity()) {
-        Ok(()) => load(rt.alloc(), database, image_base),
+    match database {
+        Ok(database) => load(rt.alloc(), database, image_base),
         Err(error) => Err(error),
     }
 }
 
-/// Reads the database of a file into an arena: of an image, or the file itself.
+/// Checks that a database has the identity that a line asks for, if it asks for one.
+fn check_asked<F: FileExt + Drop>(
+    alloc: Global,
+    file: &mut FileOnDemand<'_, F>,
+    asked: Option<&str>,
+) -> Result<(), OpenError> {
+    let Some(asked) = asked else {
+        return Ok(());
+    };
+    let identity = file.identity(alloc)?;
+    let text = format!(in alloc; "{identity}")?;
+    if text.eq_ignore_ascii_case(asked) {
+        Ok(())
+    } else {
+        Err(OpenError::OtherBuild)
+    }
+}
+
+/// Reads the database of a file into an arena: of an image, or the file itself, which then has the
+/// identity that is asked for.
 fn open_file<'a, F: FileExt + Drop>(
     rt: &(impl Files<File = F> + AllocGlobal),
     arena: &'a Bump,
     path: &str,
+    identity: Option<&str>,
     arguments: &Arguments<'_>,
 ) -> Result<FileAnswers<'a, F>, OpenError> {
     let (file, size) = open_regular(rt, path)?;
     if is_image(&file)? {
         return open_image(rt, arena, path, arguments);
     }
-    let read = read_on_demand(rt.alloc(), arena, file, size)?;
-    load(rt.alloc(), read, 0)
+    let mut read = read_on_demand(rt.alloc(), arena, file, size)?;
+    match check_asked(rt.alloc(), &mut read, identity) {
+        Ok(()) => load(rt.alloc(), read, 0),
+        Err(error) => Err(error),
+    }
 }
 
 /// Whether a file begins as an image does.
@@ -207,20 +265,23 @@ fn is_image(file: &impl FileExt) -> io::Result<bool> {
     }
 }
 
-/// The path of a file that isn't there in a store, of a name with an identity after its last colon.
-fn path_in_stores(
+/// The path of a file that isn't there in a store, of a name with an identity after its last colon,
+/// and that identity.
+fn path_in_stores<'n>(
     rt: &(impl Files + AllocGlobal),
     stores: &[&str],
-    name: &str,
-) -> Result<Option<String>, AllocError> {
+    name: &'n str,
+) -> Result<Option<(String, &'n str)>, AllocError> {
     let is_there = unless_memory(fs::exists(rt, name));
-    match (is_there, name.rsplit_once(':')) {
-        (Ok(None | Some(false)), Some((file, identity)))
-            if split_identity(name.as_bytes()).is_some() => {
-            find_in_stores(rt, stores, file_name(file), identity)
-        }
-        (Ok(_), _) => Ok(None),
-        (Err(error), _) => Err(error),
+    let (file, identity) = match (is_there, name.rsplit_once(':')) {
+        (Ok(None | Some(false)), Some(parts)) if split_identity(name.as_bytes()).is_some() => parts,
+        (Ok(_), _) => return Ok(None),
+        (Err(error), _) => return Err(error),
+    };
+    match find_in_stores(rt, stores, file_name(file), identity) {
+        Ok(Some(path)) => Ok(Some((path, identity))),
+        Ok(None) => Ok(None),
+        Err(error) => Err(error),
     }
 }
 
@@ -232,7 +293,7 @@ fn bare_name(file: &str) -> &str {
 
 /// Reads the database of a file into an arena: of an image, or the file itself. An
 /// architecture after a colon is left out. A file that isn't there, with an identity after a
-/// colon, is looked for in the stores.
+/// colon, is looked for in the stores; a database there has to have that identity.
 ///
 /// # Errors
 /// Why it can't be read.
@@ -244,8 +305,10 @@ pub fn open<'a, F: FileExt + Drop>(
 ) -> Result<FileAnswers<'a, F>, OpenError> {
     let bare = bare_name(file);
     match path_in_stores(rt, &arguments.choices.stores, bare) {
-        Ok(Some(path)) => open_file(rt, arena, path.as_str(), arguments),
-        Ok(None) => open_file(rt, arena, bare, arguments),
+        Ok(Some((path, identity))) => {
+            open_file(rt, arena, path.as_str(), Some(identity), arguments)
+        }
+        Ok(None) => open_file(rt, arena, bare, None, arguments),
         Err(error) => Err(error.into()),
     }
 }

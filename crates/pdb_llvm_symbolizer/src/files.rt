@@ -315,7 +315,15 @@ impl<'a, F: FileExt + Drop> AskedFiles<'a, F> {
         };
         let number = self.ask(rt, name)?;
         match (request.command, self.files.get_mut(number)) {
-            (Command::Code, Some(AskedFile { loaded: Ok(loaded), .. })) => {
+            (
+                Command::Code,
+                Some(
+                    AskedFile {
+                        loaded: Ok(loaded),
+                        ..
+                    },
+                ),
+            ) => {
                 loaded.expect(arguments, request.address)?;
             }
             _ => {}

@@ -4,8 +4,9 @@ ghost use Rattle.std.specs.Prelude.{[]};
 
 use crate::arguments::Arguments;
 use crate::files::AskedFiles;
-use pdb_engine::{Answers, InputFault, LineStart, LongStart, Request, Watched};
-use pdb_engine::{write_all, write_fault};
+use pdb_engine::{
+    Answers, InputFault, LineStart, LongStart, Request, Watched, write_all, write_fault,
+};
 use pdb_llvm_protocol::{Style, TextOptions};
 use std::alloc::{AllocError, Global};
 use std::io::Write;

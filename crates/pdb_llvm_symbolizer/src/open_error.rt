@@ -29,6 +29,13 @@ pub enum OpenError {
     Load(LoadFault),
 }
 
+impl OpenError {
+    /// Whether memory ran out.
+    pub fn is_out_of_memory(&self) -> bool {
+        matches!(self, OpenError::Load(LoadFault::OutOfMemory))
+    }
+}
+
 impl From<ImageError> for OpenError {
     fn from(cause: ImageError) -> OpenError {
         OpenError::Image(cause)
