@@ -69,6 +69,8 @@ fn reason(kind: ErrorKind) -> Option<&'static str> {
         ErrorKind::IsADirectory => Some("Is a directory"),
         ErrorKind::NotADirectory => Some("Not a directory"),
         ErrorKind::PermissionDenied => Some("Permission denied"),
+        ErrorKind::InvalidFilename => Some("File name too long"),
+        ErrorKind::FilesystemLoop => Some("Too many levels of symbolic links"),
         _ => Some("Input/output error"),
     }
 }

@@ -5,6 +5,7 @@ use crate::loaded::Loaded;
 use crate::output::{Output, number_or_unknown, text_or_unknown};
 use pdb_listings::{Column, FunctionRow, Value, list_functions, listed_name};
 use std::alloc::Global;
+use std::cmp::Ordering;
 use std::io::Write;
 
 const COLUMNS: &[Column] = &[
@@ -91,12 +92,22 @@ pub fn write<W: Write + Drop>(
     Ok(())
 }
 
-/// The functions of a database with their places.
+/// The order of functions: by address, and then by name.
+fn row_order(a: &FunctionRow, b: &FunctionRow) -> Ordering {
+    let (a, b) = (&a.function, &b.function);
+    a.start_rva.cmp(&b.start_rva).then(a.name.cmp(&b.name))
+}
+
+/// The functions of a database with their places, by address. A context lists a function for each
+/// symbol in it that begins a piece: here it stands once.
 ///
 /// # Errors
 /// `Load`, `OutOfMemory`.
 pub fn rows_of(alloc: Global, loaded: Loaded<'_>) -> Result<Vec<FunctionRow>, Fault> {
     let mut context = loaded.context(alloc)?;
     let lister = loaded.context(alloc)?;
-    Ok(list_functions(alloc, lister, &mut context)?)
+    let mut rows = list_functions(alloc, lister, &mut context)?;
+    rows.sort_by(|a: &FunctionRow, b: &FunctionRow| row_order(a, b))?;
+    rows.dedup_by(|a: &mut FunctionRow, b: &mut FunctionRow| row_order(a, b).is_eq());
+    Ok(rows)
 }

@@ -40,28 +40,27 @@ fn offset_in(word: &str) -> Option<u32> {
     }
 }
 
-/// The name and the offset of a word.
-fn asked_by(word: &str) -> Asked<'_> {
-    if let Some((name, digits)) = word.rsplit_once('+') {
-        if let Some(offset) = offset_in(digits) {
-            return Asked { name, offset };
-        }
-    }
-    Asked {
-        name: word,
-        offset: 0,
+/// The name and the offset of a word that ends with one.
+fn asked_by(word: &str) -> Option<Asked<'_>> {
+    let (name, digits) = word.rsplit_once('+')?;
+    match offset_in(digits) {
+        Some(offset) => Some(Asked { name, offset }),
+        None => None,
     }
 }
 
-/// Writes the row of a function.
+/// Writes the row of a function, and returns whether the offset leads to an address.
 fn write_row<W: Write + Drop>(
     row: &FunctionRow,
     offset: u32,
     output: &mut Output<W>,
-) -> Result<(), Fault> {
-    let address = Value::Address(row.function.start_rva.saturating_add(offset));
+) -> Result<bool, Fault> {
+    let Some(address) = row.function.start_rva.checked_add(offset) else {
+        return Ok(false);
+    };
     let name = text_or_unknown(&row.function.name);
-    output.row(COLUMNS, &[address, name])
+    output.row(COLUMNS, &[Value::Address(address), name])?;
+    Ok(true)
 }
 
 /// Writes the functions with a name, and returns whether there is one.
@@ -74,12 +73,32 @@ fn write_named<W: Write + Drop>(
     let mut found = false;
     let marks = functions_named(alloc, rows, asked.name.as_bytes())?;
     for (row, mark) in rows.iter().zip(marks) {
-        if mark {
-            write_row(row, asked.offset, output)?;
+        if mark && write_row(row, asked.offset, output)? {
             found = true;
         }
     }
     Ok(found)
+}
+
+/// Writes the functions whose name is a word or, if there is none, the word without its offset;
+/// returns whether there is one.
+fn write_asked<W: Write + Drop>(
+    alloc: Global,
+    rows: &[FunctionRow],
+    word: &str,
+    output: &mut Output<W>,
+) -> Result<bool, Fault> {
+    let whole = Asked {
+        name: word,
+        offset: 0,
+    };
+    if write_named(alloc, rows, whole, output)? {
+        return Ok(true);
+    }
+    match asked_by(word) {
+        Some(asked) => write_named(alloc, rows, asked, output),
+        None => Ok(false),
+    }
 }
 
 /// Writes the functions with each of the names, and returns whether there is one of each; a name
@@ -98,7 +117,7 @@ pub fn write<W: Write + Drop>(
     output.header(COLUMNS)?;
     let mut all = true;
     for name in names {
-        if !write_named(alloc, &rows, asked_by(name), output)? {
+        if !write_asked(alloc, &rows, name, output)? {
             let _ = eprintln!(rt; "pdb_inspect: no function is called {name}");
             all = false;
         }

@@ -33,6 +33,11 @@ impl<W: Write + Drop> Output<W> {
         matches!(self.format, Format::Text)
     }
 
+    /// Whether so much waits that it is written before the next row.
+    pub fn is_full(&self) -> bool {
+        self.waiting.len() >= AT_ONCE
+    }
+
     /// Writes what waits.
     ///
     /// # Errors
@@ -61,6 +66,9 @@ impl<W: Write + Drop> Output<W> {
     /// # Errors
     /// `Write`, `OutOfMemory`.
     pub fn row(&mut self, columns: &[Column], values: &[Value<'_>]) -> Result<(), Fault> {
+        if self.is_full() {
+            self.flush()?;
+        }
         let mut fields = Vec::new(self.alloc);
         for (column, value) in columns.iter().zip(values) {
             fields.push(Field {
@@ -69,9 +77,6 @@ impl<W: Write + Drop> Output<W> {
             })?;
         }
         append_row(self.alloc, &mut self.waiting, self.format, &fields)?;
-        if self.waiting.len() >= AT_ONCE {
-            self.flush()?;
-        }
         Ok(())
     }
 }

@@ -11,7 +11,7 @@ use pdb_container::StringTable;
 use pdb_listings::{Column, SourceFile, StoredSum, Value, Verdict, append_sources, verdict_of};
 use std::alloc::{AllocError, Global};
 use std::cmp::Ordering;
-use std::fs::{self, OpenFile};
+use std::fs;
 use std::io::{ErrorKind, Read, Write};
 use std::os::unix::fs::FileExt;
 use std::rt::Files;
@@ -80,15 +80,17 @@ fn all_sources(
 
 /// The bytes of a regular file at a path; `None` where there is none that can be read.
 fn bytes_at(rt: &(impl Files + AllocGlobal), path: &str) -> Result<Option<Vec<u8>>, AllocError> {
+    // A FIFO would wait for a writer once it is opened.
+    match fs::metadata(rt, path) {
+        Ok(metadata) if metadata.is_file() => {}
+        Err(error) if error.kind() == ErrorKind::OutOfMemory => return Err(AllocError),
+        _ => return Ok(None),
+    }
     let mut file = match fs::open(rt, path) {
         Ok(file) => file,
         Err(error) if error.kind() == ErrorKind::OutOfMemory => return Err(AllocError),
         Err(_) => return Ok(None),
     };
-    match file.metadata() {
-        Ok(metadata) if metadata.is_file() => {}
-        _ => return Ok(None),
-    }
     let mut bytes = Vec::new(rt.alloc());
     match Read::by_ref(&mut file).read_to_end(&mut bytes) {
         Ok(_) => Ok(Some(bytes)),
@@ -206,6 +208,9 @@ fn write_verdicts<W: Write + Drop, E: Write>(
         progress.files(done, sources.len());
         let verdict = verdict_by(rt, source, folders)?;
         let word = Value::Text(word_of(verdict));
+        if output.is_full() {
+            progress.end();
+        }
         output.row(COLUMNS, &[word, Value::Text(source.path.as_str())])?;
     }
     progress.end();
