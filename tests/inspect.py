@@ -1,5 +1,5 @@
 #!/usr/bin/env python3
-"""Checks pdb_inspect against pdb_symbolizer at every address, and against llvm-pdbutil and md5sum.
+"""Checks pdb_inspect against pdb_symbolizer at every address, llvm-pdbutil and hashlib.
 
     tests/inspect.py [--built BUILT | --unproved] [--record | FILE ..]
 
@@ -15,8 +15,8 @@ lie, with NAME in it for a program's name; if left out, the proved ones are run.
 - `modules`: the bytes of each module are those of llvm-pdbutil's section contributions;
 - `info`: GUID and age are those of llvm-pdbutil;
 - `locate`: each name of a function is found at its address;
-- `sources`: what is said agrees with md5sum, sha1sum and sha256sum of copies that are right,
-  changed and missing;
+- `sources`: what is said agrees with the digests, by Python's hashlib, of copies that are right,
+  changed and missing; and with `SUMS` of a database with MD5, SHA-1 and SHA-256 by hashlib;
 - `diff`: the changes add up to the difference of the totals, and are none of a file to itself;
 - CSV and JSON have the same rows.
 
@@ -34,6 +34,7 @@ import csv
 import hashlib
 import io
 import json
+import lzma
 import os
 import re
 import shlex
@@ -48,6 +49,34 @@ from built import ROOT, end, program, stop, taken  # noqa: E402
 
 STORED = [f"{ROOT}/crates/pdb_symbolizer/data/{it}.pdb" for it in ("x64", "i386", "gnu_ld", "damaged")]
 PLACE = re.compile(r"  (.*) at (.*):(\d+|\?\?) @.*")
+# Files, and what is to be said of the paths of tests/inspect/sums.pdb.xz by them. Each name has the
+# kind of its checksum; that of ch.c is another content's, that of deep/dir/d.c is d.c's, and that of
+# short.c is cut. gone.c is a FIFO.
+COPIES = {
+    "md5.c": b"md5 file",
+    "sha1.c": b"sha1 file",
+    "sha256.c": b"sha256 file",
+    "empty.c": b"",
+    "ch.c": b"changed now",
+    "short.c": b"q",
+    "none.c": b"x",
+    "deep/dir/d.c": b"deep",
+    "d.c": b"other",
+}
+SUMS = """verdict,path
+changed,/b/ch.c
+right,/b/empty.c
+missing,/b/emptymd5.c
+missing,/b/gone.c
+right,/b/md5.c
+no checksum,/b/none.c
+changed,/b/short.c
+missing,/b/twice.c
+missing,/b/twice.c
+right,/x/deep/dir/d.c
+right,C:\\b\\sha1.c
+right,sha256.c
+"""
 ASKED = "section-headers", "section-contribs", "modules", "summary", "files"
 MOST = 1_000_000
 counts = [0, 0]
@@ -316,6 +345,19 @@ def check_sources(inspect, file):
             check(f"sources {file} {turn}", verdicts == sorted(wanted), f"{verdicts} and {sorted(wanted)}")
 
 
+def check_sums(inspect):
+    with tempfile.TemporaryDirectory() as folder:
+        with lzma.open(f"{ROOT}/tests/inspect/sums.pdb.xz") as stored, open(f"{folder}/sums.pdb", "wb") as file:
+            file.write(stored.read())
+        for name, content in COPIES.items():
+            os.makedirs(os.path.dirname(f"{folder}/src/{name}"), exist_ok=True)
+            with open(f"{folder}/src/{name}", "wb") as file:
+                file.write(content)
+        os.mkfifo(f"{folder}/src/gone.c")
+        said = run([inspect, "sources", f"{folder}/sums.pdb", f"{folder}/src", "--format", "csv"])
+        check("checksums of each kind", said == SUMS, said)
+
+
 def check_diff(inspect, old, new):
     for by in ("function", "file", "folder", "module", "library", "section"):
         rows = rows_of(inspect, "diff", old, new, "--by", by)
@@ -451,6 +493,7 @@ def main():
     attempt("progress", check_progress, inspect)
     attempt("a pipe", check_pipe, inspect, files[0])
     attempt("faults", check_faults, inspect)
+    attempt("checksums", check_sums, inspect)
     attempt("cases", check_cases, inspect)
     end(*counts)
 
