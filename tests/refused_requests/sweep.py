@@ -427,7 +427,8 @@ def asked(folder):
         answers = texts[row.database, "23", "context"]
         for address in row.addresses():
             offset = f"{max(int(address, 16) - 0x1000, 0):x}"
-            places = f"frames_at 0 {address}", f"function_at 0 {address}", f"run_from 0 {offset}", f"file_run_from 0 {offset}"
+            places = f"frames_at 0 {address}", f"function_at 0 {address}"
+            places += tuple(f"{run} 0 {offset}" for run in ("run_from", "file_run_from", "frames_run_from"))
             for question in (*places, "functions 0 0"):
                 answers.setdefault(question, None)
     for (database, flags, kind), answers in texts.items():

@@ -33,7 +33,7 @@ told_found inlines start None = None
 told_found inlines start (Some found) = told_of start (frames_shown inlines found.frames)
 
 -- what is told of an address: of its frames, as the report on lines has them, in the function that
--- the report on a range has there; nothing where the frames can't be read
+-- is found there; nothing where the frames can't be read
 abbrev pub told_named : Bool → ℕ → ContributionOrder → Streams → ℕ → Option Told
 told_named inlines flags order s a =
     told_found inlines (start_of (function_named flags order s a))

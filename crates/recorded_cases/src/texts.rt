@@ -19,6 +19,8 @@
 //!   over which it stays the same, and the number of places that were looked up for it
 //! - `file_run_again`: the same as `file_run_from`, of a context that was asked before for the
 //!   frames at that offset from RVA 0x1000
+//! - `frames_run_from`: the frames at that offset of section 1, the number of bytes up to 256 over
+//!   which they stay the same, and the number of places that were looked up for them
 //! - `functions`: the number of entries of the public list, and all functions
 //! - `each_again`: for frames, function, run and functions, the number of the 288 addresses from
 //!   that RVA on at which a new context asks for modules, and how often such contexts ask for them

@@ -106,6 +106,7 @@ pub fn answer_by<P: ModuleProvider>(
         Asked::RunFrom => run_text(alloc, context, question.index),
         Asked::FileRunFrom => file_run_text(alloc, context, question.index),
         Asked::FileRunAgain => file_run_again_text(alloc, context, question.index),
+        Asked::FramesRunFrom => frames_run_text(alloc, context, question.index),
         _ => functions_text(alloc, context),
     }
 }
@@ -154,6 +155,23 @@ fn file_run_again_text<P: ModuleProvider>(
     let found = context.find_frames(alloc, offset.saturating_add(0x1000));
     drop(found);
     file_run_text(alloc, context, offset)
+}
+
+/// Returns the frames at an offset of section 1, how far they go on, and the number of places that
+/// were looked up.
+fn frames_run_text<P: ModuleProvider>(
+    alloc: Global,
+    context: &mut Context<'_, '_, P>,
+    offset: u32,
+) -> Result<String, Error> {
+    let before = context.lookups();
+    let place = PdbInternalSectionOffset { offset, section: 1 };
+    let run = context.find_frames_run(alloc, place, 0x100);
+    let lookups = context.lookups().saturating_sub(before);
+    match run {
+        Ok(run) => shown(alloc, &(run, lookups)),
+        Err(fault) => Err(fault),
+    }
 }
 
 /// Returns the number of entries of the public list, and all functions.

@@ -29,6 +29,8 @@ pub enum Asked {
     FileRunFrom,
     /// The run of the source file of a place, from a context that was asked for its frames before.
     FileRunAgain,
+    /// The run of the frames of a place.
+    FramesRunFrom,
     /// All functions.
     Functions,
     /// The number of times that contexts that were asked before ask for modules, at each of many
@@ -54,6 +56,7 @@ const ASKED: &[(&str, Asked)] = &[
     ("run_from", Asked::RunFrom),
     ("file_run_from", Asked::FileRunFrom),
     ("file_run_again", Asked::FileRunAgain),
+    ("frames_run_from", Asked::FramesRunFrom),
     ("functions", Asked::Functions),
     ("each_again", Asked::EachAgain),
     ("forgotten", Asked::Forgotten),
