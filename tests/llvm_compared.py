@@ -198,6 +198,27 @@ def finds_in_stores():
         return all(answers(room, more, *words) for more, *words in asked)
 
 
+def passes_over_other_builds():
+    """Whether a database beside its image that is of another build, or none, leaves the right one to
+    be found in a store, and one that lies in a store under the identity of another is refused."""
+    with tempfile.TemporaryDirectory() as room:
+        shutil.copy(f"{llvm_cases.DATA}/x64.exe", room)
+        stored, beside = f"{room}/one/{STORES['one']}", f"{room}/x64.pdb"
+        os.makedirs(os.path.dirname(stored))
+        shutil.copy(f"{llvm_cases.DATA}/x64.pdb", stored)
+        asked = {}, "--symbol-store=one", "--obj=x64.exe"
+        shutil.copy(f"{llvm_cases.DATA}/i386.pdb", beside)
+        is_found = answers(room, *asked)
+        with open(beside, "wb") as file:
+            file.write(b"none")
+        is_found = is_found and answers(room, *asked)
+        os.remove(beside)
+        shutil.copy(f"{llvm_cases.DATA}/i386.pdb", stored)
+        name = f"x64.pdb:{DATABASE}"
+        words = ["--symbol-store=one", f"--obj={name}"]
+        return is_found and refuses(room, words, f"'{name}': the PDB is of another build")
+
+
 def answers(room, environment, *words):
     """Whether the program answers one address with these arguments."""
     ran = subprocess.run(
@@ -227,7 +248,7 @@ for name in names:
         print(f"{name}: otherwise than llvm-symbolizer, and not as {name}.differs says:")
         print(differs.decode(errors="replace"))
 TESTS = (answers_in_turn, bounds_lines, opens_regular_files, reads_as_far_as_headers)
-TESTS += (finds_in_stores, ends_where_input_is_closed)
+TESTS += (finds_in_stores, passes_over_other_builds, ends_where_input_is_closed)
 TESTS = () if is_unproved else TESTS
 for test in TESTS:
     if not test():
