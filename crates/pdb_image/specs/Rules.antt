@@ -2,11 +2,11 @@
 -- the return address and saved registers are found.
 use Rattle.std.specs.Prelude.{ℕ, ◌+◌, ◌<◌, ◌^◌, max, ◌-ℤ◌, ℤ, pos, negsuc, Bool, true, false, List}
 use Rattle.std.specs.Prelude.{[], ◌∷◌, map, nat_le, ◌==◌, if◌then◌else◌, Option, None, Some}
-use Rattle.std.specs.Prelude.{slice_index_or}
+use Rattle.std.specs.Prelude.{IfSome, slice_index_or, slice_set, ◌||◌}
 use Rattle.std.specs.Prelude.{unwrap_or}
 use Rattle.std.specs.Option.{option_map}
 use Rattle.std.specs.List.{filter, list_any, range_with_len}
-use Rattle.pdb_image.specs.Codes.{is_machine_frame}
+use Rattle.pdb_image.specs.Codes.{is_machine_frame, is_machine_operation}
 use Rattle.pdb_image.specs.declared.code.UnwindCode.{UnwindCode}
 use Rattle.pdb_image.specs.declared.code.UnwindOperation.{UnwindOperation}
 use Rattle.pdb_image.specs.declared.code.UnwindOperation.TheVariants.{Push, Allocate, SetFrame}
@@ -80,18 +80,45 @@ saved register (code ∷ before) =
 abbrev pub has_machine_frame : List UnwindCode → Bool
 has_machine_frame steps = list_any is_machine_frame steps
 
--- the effect of steps: the depth, the frame that was set, and whether there is a machine frame
+-- the slots of the general registers, by their numbers
+abbrev pub slots_of : List UnwindCode → List (Option Saved)
+slots_of steps = map (λ register. saved register steps) (range_with_len 0 16)
+
+-- The effect of steps: the depth, the frame that was set, whether there is a machine frame, and the
+-- slots.
 abbrev pub steps_of : List UnwindCode → Steps
 steps_of steps = record {
   depth = depth steps;
   frame = frame_set steps;
   is_machine = has_machine_frame steps;
+  slots = slots_of steps;
+}
+
+-- the slots after a step at this depth, which saves a register, or leaves them as before
+abbrev pub slots_after : UnwindOperation → ℕ → List (Option Saved) → List (Option Saved)
+slots_after (Push register) depth slots = slice_set slots register (Some (Below depth))
+slots_after (Save register offset) depth slots = slice_set slots register (Some (Above offset))
+slots_after (Allocate size) depth slots = slots
+slots_after (SetFrame register offset) depth slots = slots
+slots_after (MachineFrame has_error_code) depth slots = slots
+
+-- the effect of steps and of one more
+abbrev pub steps_after : UnwindOperation → Steps → Steps
+steps_after operation before = record {
+  depth = before.depth + growth_of operation;
+  frame = frame_after operation before.depth before.frame;
+  is_machine = is_machine_operation operation || before.is_machine;
+  slots = slots_after operation (before.depth + growth_of operation) before.slots;
 }
 
 -- a place below the slot lies less than 2^48 bytes below it
 abbrev pub IsShort : Saved → Type 0
 IsShort (Below n) = n < 2 ^ 48
 IsShort (Above n) = Unit {0}
+
+-- so do those of all general registers
+abbrev pub AreShort : List (Option Saved) → Type 0
+AreShort slots = (k : ℕ) → k < 16 → IfSome (slice_index_or slots k None) IsShort
 
 -- the last offset at which a step ends, or 0
 abbrev pub last_offset : List UnwindCode → ℕ
@@ -134,6 +161,11 @@ saved_rule is_machine f (Below depth) =
 saved_rule is_machine f (Above offset) =
     if is_machine then read_at (General f.register) (difference offset f.offset)
     else read_at Cfa (difference offset (f.low + 8))
+
+-- the rule of a general register by the slots, if it was saved
+abbrev pub slot_rule : Bool → Frame → List (Option Saved) → ℕ → Option Expression
+slot_rule is_machine f slots register =
+    option_map (saved_rule is_machine f) (slice_index_or slots register None)
 
 -- the rule of a general register, if it was saved
 abbrev pub register_rule : List UnwindCode → ℕ → Option Expression

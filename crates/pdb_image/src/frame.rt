@@ -1,9 +1,9 @@
 //! The frame that the steps of a prolog have made, at an offset.
 
-ghost use Rattle.std.specs.Prelude.{◌≡◌, ◌+◌, ◌*◌, ◌^◌, ◌<◌, ◌≤◌, ◌∷◌, List, length, IfSome};
-ghost use Rattle.pdb_image.specs.Rules.{IsShort, depth as depth_of, done};
-ghost use Rattle.pdb_image.specs.Rules.{frame as frame_of, growth_of as growth_by};
-ghost use Rattle.pdb_image.specs.Rules.{saved as saved_in, saved_after, steps_of};
+ghost use Rattle.std.specs.Prelude.{◌≡◌, ◌+◌, ◌^◌, ◌<◌, ◌≤◌, ◌∷◌, List, [], length};
+ghost use Rattle.std.specs.Prelude.{Some, slice_set};
+ghost use Rattle.pdb_image.specs.Rules.{done, frame as frame_of, growth_of as growth_by};
+ghost use Rattle.pdb_image.specs.Rules.{steps_after, steps_of};
 ghost use Rattle.pdb_image.specs.declared.code.UnwindCode.{UnwindCode as Code};
 
 use crate::code::{UnwindCode, UnwindOperation};
@@ -29,19 +29,33 @@ pub(crate) enum Saved {
 }
 
 /// The effect of steps: the distance of the slot of the return address above the stack pointer, in
-/// bytes, the frame that was set, and whether there is a machine frame.
+/// bytes, the frame that was set, whether there is a machine frame, and the slots in which general
+/// registers were saved, by their numbers.
 #[derive(Clone, Copy)]
 pub(crate) struct Steps {
     pub(crate) depth: u64,
     pub(crate) frame: Option<Frame>,
     pub(crate) is_machine: bool,
+    pub(crate) slots: [Option<Saved>; 16],
 }
 
 impl Steps {
+    /// The effect of no step.
+    #[tactic(auto, using(crate::proofs::Steps::nothing_done))]
+    fn none() -> Steps
+        ensures { result ≡ steps_of [] }
+    {
+        Steps {
+            depth: 0,
+            frame: None,
+            is_machine: false,
+            slots: [None; 16],
+        }
+    }
+
     /// The frame; the stack pointer's, if none was set.
-    pub(crate) fn frame(self) -> Frame
-        ensures frame { (steps : List Code) → self ≡ steps_of steps → result ≡ frame_of steps }
-        ensures low { IfSome self.frame (λ f. f.low ≤ self.depth) → result.low ≤ self.depth }
+    pub(crate) fn frame(&self) -> Frame
+        ensures { (steps : List Code) → self.now ≡ steps_of steps → result ≡ frame_of steps }
     {
         self.frame.unwrap_or(Frame {
             register: STACK_POINTER,
@@ -50,29 +64,54 @@ impl Steps {
         })
     }
 
-    /// The effect of these steps and of one more.
-    fn after(self, code: UnwindCode) -> Steps
-        requires { self.depth < 2 ^ 62 }
-        ensures steps { (before : List Code) → self ≡ steps_of before
-            → result ≡ steps_of (code ∷ before) }
-        ensures depth { result.depth ≡ self.depth + growth_by code.operation }
-        ensures low { IfSome self.frame (λ f. f.low ≤ self.depth)
-            → IfSome result.frame (λ f. f.low ≤ result.depth) }
+    /// Adds the effect of one more step.
+    fn take(&mut self, operation: UnwindOperation)
+        requires { self.now.depth < 2 ^ 62 }
+        ensures steps { self.new ≡ steps_after operation self.old }
+        ensures depth { self.new.depth ≤ self.old.depth + 2 ^ 32 }
     {
-        let mut next = self;
-        next.depth += growth_of(code.operation);
-        match code.operation {
+        let low = self.depth;
+        self.depth += growth_of(operation);
+        match operation {
+            UnwindOperation::Push(register) => {
+                put(&mut self.slots, register, Saved::Below(self.depth));
+            }
+            UnwindOperation::Save(register, offset) => {
+                put(&mut self.slots, register, Saved::Above(offset));
+            }
             UnwindOperation::SetFrame(register, offset) => {
-                next.frame = Some(Frame {
+                self.frame = Some(Frame {
                     register,
                     offset,
-                    low: self.depth,
+                    low,
                 });
             }
-            UnwindOperation::MachineFrame(_) => next.is_machine = true,
-            _ => {}
+            UnwindOperation::MachineFrame(_) => self.is_machine = true,
+            UnwindOperation::Allocate(_) => {}
         }
-        next
+    }
+
+    /// Adds the effect of a code, if its step is done at an offset.
+    #[tactic(auto, using(crate::proofs::Steps::step_counted, crate::proofs::Steps::step_passed))]
+    fn count(&mut self, code: UnwindCode, offset: u32)
+        requires { self.now.depth < 2 ^ 62 }
+        ensures steps { (before : List Code) → self.old ≡ steps_of (done offset before)
+            → self.new ≡ steps_of (done offset (code ∷ before)) }
+        ensures depth { self.new.depth ≤ self.old.depth + 2 ^ 32 }
+    {
+        if u32::from(code.offset) <= offset {
+            self.take(code.operation);
+        }
+    }
+}
+
+/// Puts the slot of a register in place of the one before, if it is a general register.
+#[tactic(auto, using(crate::proofs::Steps::not_put))]
+fn put(slots: &mut [Option<Saved>; 16], register: u8, saved: Saved)
+    ensures { slots.new ≡ slice_set slots.old register (Some saved) }
+{
+    if register < 16 {
+        slots[usize::from(register)] = Some(saved);
     }
 }
 
@@ -90,73 +129,18 @@ fn growth_of(operation: UnwindOperation) -> u64
     }
 }
 
-/// The effect of steps, and of a code, too, if its step is done at an offset.
-fn counted(steps: Steps, code: UnwindCode, offset: u32) -> Steps
-    requires { steps.depth < 2 ^ 62 }
-    ensures steps { (before : List Code) → steps ≡ steps_of (done offset before)
-        → result ≡ steps_of (done offset (code ∷ before)) }
-    ensures depth { result.depth ≤ steps.depth + 2 ^ 32 }
-    ensures low { IfSome steps.frame (λ f. f.low ≤ steps.depth)
-        → IfSome result.frame (λ f. f.low ≤ result.depth) }
-{
-    if u32::from(code.offset) <= offset {
-        steps.after(code)
-    } else {
-        steps
-    }
-}
-
 /// The effect of the steps that are done at an offset.
 #[tactic(auto, using(crate::proofs::Steps::steps_more, crate::proofs::Steps::steps_none))]
 pub(crate) fn steps_at(codes: &[UnwindCode], offset: u32) -> Steps
     requires { length codes.now < 2 ^ 16 }
     ensures steps { result ≡ steps_of (done offset codes.now) }
     ensures depth { result.depth < 2 ^ 48 }
-    ensures low { IfSome result.frame (λ f. f.low ≤ result.depth) }
 {
-    let mut steps = Steps {
-        depth: 0,
-        frame: None,
-        is_machine: false,
-    };
+    let mut steps = Steps::none();
     let mut left = codes.len();
     while left > 0 {
         left -= 1;
-        steps = counted(steps, codes[left], offset);
+        steps.count(codes[left], offset);
     }
     steps
-}
-
-/// The slot in which a step saved a register, if it did, at this depth below the return address's.
-fn saved_by(operation: UnwindOperation, register: u8, depth: u64) -> Option<Saved>
-    ensures saved { result ≡ saved_after register operation depth None }
-    ensures short { depth < 2 ^ 48 → IfSome result IsShort }
-{
-    match operation {
-        UnwindOperation::Push(other) if other == register => Some(Saved::Below(depth)),
-        UnwindOperation::Save(other, offset) if other == register => Some(Saved::Above(offset)),
-        _ => None,
-    }
-}
-
-/// The slot in which the steps that are done at an offset, and have made this depth, saved a
-/// register.
-#[tactic(auto, using(crate::proofs::Steps::saved_here, crate::proofs::Steps::saved_before, crate::proofs::Steps::saved_passed, crate::proofs::Steps::saved_nowhere, crate::proofs::Steps::depth_here, crate::proofs::Steps::depth_passed))]
-pub(crate) fn saved_at(codes: &[UnwindCode], offset: u32, depth: u64, register: u8) -> Option<Saved>
-    requires depth { depth ≡ depth_of (done offset codes.now) }
-    requires small { depth < 2 ^ 48 }
-    ensures saved { result ≡ saved_in register (done offset codes.now) }
-    ensures short { IfSome result IsShort }
-{
-    let mut depth = depth;
-    for code in codes {
-        if offset < u32::from(code.offset) {
-            continue;
-        }
-        if let Some(saved) = saved_by(code.operation, register, depth) {
-            return Some(saved);
-        }
-        depth -= growth_of(code.operation);
-    }
-    None
 }

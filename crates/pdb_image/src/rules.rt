@@ -1,14 +1,15 @@
 //! The rules by which a frame is left.
 
-ghost use Rattle.std.specs.Prelude.{◌≡◌, ◌<◌, ◌≤◌, ◌^◌, IfSome, false, length, map, true};
+ghost use Rattle.std.specs.Prelude.{◌≡◌, ◌<◌, ◌^◌, IfSome, false, length, map, true};
 ghost use Rattle.std.specs.List.{range_with_len};
-ghost use Rattle.pdb_image.specs.Rules.{IsShort, cfa_rule as cfa_rule_of, difference as signed};
-ghost use Rattle.pdb_image.specs.Rules.{done, return_rule as return_rule_of, rule as rule_in};
-ghost use Rattle.pdb_image.specs.Rules.{register_rule as register_rule_of, rules_at};
-ghost use Rattle.pdb_image.specs.Rules.{saved_rule as saved_rule_of, steps_of};
+ghost use Rattle.std.specs.Option.{option_map};
+ghost use Rattle.pdb_image.specs.Rules.{AreShort, IsShort, cfa_rule as cfa_rule_of};
+ghost use Rattle.pdb_image.specs.Rules.{difference as signed, return_rule as return_rule_of};
+ghost use Rattle.pdb_image.specs.Rules.{rule as rule_in, rules_at, saved_rule as saved_rule_of};
+ghost use Rattle.pdb_image.specs.Rules.{slot_rule as slot_rule_in};
 
 use crate::code::UnwindCode;
-use crate::frame::{Frame, Saved, Steps, saved_at, steps_at};
+use crate::frame::{Frame, Saved, steps_at};
 
 /// A register that a rule finds, or begins with.
 #[derive(Clone, Copy, Debug, PartialEq, Eq)]
@@ -73,10 +74,11 @@ impl Rules {
         ensures { result ≡ rules_at codes.now offset }
     {
         let steps = steps_at(codes, offset);
+        let (is_machine, frame) = (steps.is_machine, steps.frame());
         Rules {
-            cfa: cfa_rule(steps.is_machine, steps.frame()),
-            return_address: return_rule(steps.is_machine, steps.frame()),
-            saved: saved_rules(codes, offset, steps),
+            cfa: cfa_rule(is_machine, frame),
+            return_address: return_rule(is_machine, frame),
+            saved: saved_rules(is_machine, frame, &steps.slots),
         }
     }
 
@@ -178,34 +180,31 @@ fn saved_rule(is_machine: bool, frame: Frame, saved: Saved) -> Expression
     }
 }
 
-/// The rule of a general register, if it was saved by the steps that are done at an offset.
-fn register_rule(
-    codes: &[UnwindCode],
-    offset: u32,
-    steps: Steps,
-    register: u8,
-) -> Option<Expression>
-    requires steps { steps ≡ steps_of (done offset codes.now) }
-    requires depth { steps.depth < 2 ^ 48 }
-    requires low { IfSome steps.frame (λ f. f.low ≤ steps.depth) }
-    ensures { result ≡ register_rule_of (done offset codes.now) register }
+/// The rule of a general register with this slot, if it was saved.
+fn slot_rule(is_machine: bool, frame: Frame, slot: Option<Saved>) -> Option<Expression>
+    requires low { frame.low < 2 ^ 48 }
+    requires slot { IfSome slot IsShort }
+    ensures { result ≡ option_map (saved_rule_of is_machine frame) slot }
 {
-    match saved_at(codes, offset, steps.depth, register) {
-        Some(saved) => Some(saved_rule(steps.is_machine, steps.frame(), saved)),
+    match slot {
+        Some(saved) => Some(saved_rule(is_machine, frame, saved)),
         None => None,
     }
 }
 
-/// The rules of the general registers that were saved, by their numbers.
-fn saved_rules(codes: &[UnwindCode], offset: u32, steps: Steps) -> [Option<Expression>; 16]
-    requires steps { steps ≡ steps_of (done offset codes.now) }
-    requires depth { steps.depth < 2 ^ 48 }
-    requires low { IfSome steps.frame (λ f. f.low ≤ steps.depth) }
-    ensures { result ≡ map (register_rule_of (done offset codes.now)) (range_with_len 0 16) }
+/// The rules of the general registers with these slots, by their numbers.
+fn saved_rules(
+    is_machine: bool,
+    frame: Frame,
+    slots: &[Option<Saved>; 16],
+) -> [Option<Expression>; 16]
+    requires low { frame.low < 2 ^ 48 }
+    requires slots { AreShort slots.now }
+    ensures { result ≡ map (slot_rule_in is_machine frame slots.now) (range_with_len 0 16) }
 {
     let mut rules = [None; 16];
-    for register in 0..16u8 {
-        rules[usize::from(register)] = register_rule(codes, offset, steps, register);
+    for register in 0..16 {
+        rules[register] = slot_rule(is_machine, frame, slots[register]);
     }
     rules
 }

@@ -1,5 +1,4 @@
 use Rattle.std.proofs.Common.{◌≡◌, ◌-◌, ◌*◌, ◌^◌, ◌≤◌, length, drop}
-use Rattle.std.specs.Prelude.{IfSome}
 use Rattle.pdb_image.specs.Rules.{done, steps_of}
 use Rattle.pdb_image.proofs.frame.steps_at.Given as goal
 
@@ -9,7 +8,6 @@ invariant-loop-left l = record {
   within : l.left ≤ length l.codes;
   steps : l.steps ≡ steps_of (done l.offset (drop l.left l.codes));
   depth : l.steps.depth ≤ 2 ^ 32 * (length l.codes - l.left);
-  low : IfSome l.steps.frame (λ f. f.low ≤ l.steps.depth);
 }
 
 abbrev pub decreases-loop-left : goal.decreases-loop-left
