@@ -272,6 +272,14 @@ def check_others(tally, program, folder):
     tally.check("a link", run(program, ["--output", "link.sym", *image], folder), done)
     tally.check("behind a link", read("behind.sym"), wanted)
     tally.check("the link", os.path.islink(f"{folder}/link.sym"), True)
+    with open(f"{folder}/old.sym", "wb") as file:
+        file.write(b"old")
+    os.symlink("old.sym", f"{folder}/to_old.sym")
+    little = lambda: resource.setrlimit(resource.RLIMIT_FSIZE, (1024, 1024))
+    how = {"capture_output": True, "timeout": SECONDS, "preexec_fn": little, "restore_signals": False}
+    ran = subprocess.run([program, "--output", "to_old.sym", *image], cwd=folder, **how)
+    got = ran.returncode, ran.stderr, read("old.sym")
+    tally.check("a link, with little room", got, (1, b"fault: Write(Other)\n", b"old"))
     os.symlink("/dev/full", f"{folder}/full.sym")
     got = run(program, ["--output", "full.sym", *image], folder)
     tally.check("a full device", got, (1, b"", b"fault: Write(Other)\n"))
