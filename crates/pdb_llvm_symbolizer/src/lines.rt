@@ -22,6 +22,8 @@ pub struct RequestAnswers<'a, S: Files<File = F> + Eprint + AllocGlobal, F: Drop
     pub files: AskedFiles<'a, F>,
     /// Room in which each text is made.
     pub room: Vec<u8>,
+    /// Whether memory ran out while lines were made ready for. Then none is answered.
+    pub is_short: bool,
 }
 
 impl<'a, S, F> Answers for RequestAnswers<'a, S, F>
@@ -42,14 +44,13 @@ where
         0
     }
 
-    fn prepare(&mut self, alloc: Global, requests: &[Request<LongStart>]) {
+    fn prepare(&mut self, _alloc: Global, requests: &[Request<LongStart>]) {
         for request in requests {
-            match self.files.expect(self.system, request.line.bytes()) {
-                Ok(true) => {}
-                Ok(false) | Err(_) => break,
+            if !self.expects(request.line.bytes()) {
+                break;
             }
         }
-        self.files.read_expected(alloc);
+        self.files.read_expected(self.system.alloc());
     }
 
     fn answer(
@@ -58,6 +59,9 @@ where
         line: &[u8],
         output: &mut Vec<u8>,
     ) -> Result<(), AllocError> {
+        if self.is_short {
+            return Err(AllocError);
+        }
         self.room.clear();
         self.files.append_line(self.system, line, &mut self.room)?;
         output.extend_from_slice(&self.room)
@@ -98,12 +102,22 @@ where
     S: Files<File = F> + Eprint + AllocGlobal,
     F: FileExt + Drop,
 {
+    /// Makes ready for a line, and returns whether that may be done for lines after it, too.
+    fn expects(&mut self, line: &[u8]) -> bool {
+        match self.files.expect(self.system, line) {
+            Ok(goes_on) => goes_on,
+            Err(_) => {
+                self.is_short = true;
+                false
+            }
+        }
+    }
+
     /// Makes ready for the addresses among the arguments, before the first of them is answered.
     fn prepare_inputs(&mut self, inputs: &[&str]) {
         for input in inputs {
-            match self.files.expect(self.system, input.as_bytes()) {
-                Ok(true) => {}
-                Ok(false) | Err(_) => break,
+            if !self.expects(input.as_bytes()) {
+                break;
             }
         }
         self.files.read_expected(self.system.alloc());
@@ -111,6 +125,9 @@ where
 
     /// Makes the answer to an address among the arguments, with the mark before it.
     fn make_answer(&mut self, mark: &str, address: &str) -> Result<(), AllocError> {
+        if self.is_short {
+            return Err(AllocError);
+        }
         self.room.clear();
         self.room.extend_from_slice(mark.as_bytes())?;
         self.files

@@ -146,6 +146,7 @@ fn answer_requests<
         system: rt,
         files,
         room,
+        is_short: false,
     };
     let outcome = answer_by(&mut answers, arguments, reader, writer);
     forget(answers);
