@@ -1,5 +1,5 @@
 -- Where no step is done, no rule changes.
-use Rattle.std.proofs.Common.{◌≡◌, ℕ, ◌+◌, ◌-◌, ◌<◌, ◌≤◌, List, [], ◌∷◌, ◌++◌, Bool, true, false}
+use Rattle.std.proofs.Common.{◌≡◌, ℕ, ◌+◌, ◌-◌, ◌<◌, ◌≤◌, List, [], ◌∷◌, ◌++◌, Bool, true, false, ◌||◌}
 use Rattle.std.proofs.Common.{cond, leb, eqb, length, take, get_or, refl, sym, ap, ◌∙◌, arith, zero, suc}
 use Rattle.std.proofs.Common.{inl, inr, drop, codes, max, min}
 use Rattle.std.specs.Prelude.{Option, None, Some, is_some}
@@ -9,6 +9,8 @@ use Rattle.std.proofs.lemmas.Bool.{false_from_ne_true, or_from, or_parts}
 use Rattle.std.proofs.lemmas.List.{append_assoc, append-nil, drop_all, drop_more, take_all, take_more}
 use Rattle.std.proofs.lemmas.List.{take-append-drop}
 use Rattle.std.proofs.lemmas.List.Concat.{flat_map-append}
+use Rattle.std.proofs.lemmas.List.Folds.{list_any-append}
+use Rattle.std.proofs.Math.Bool.{or-false}
 use Rattle.pdb_image.specs.Entries.{UnwoundFunction}
 use Rattle.pdb_image.specs.Rules.{done, last_offset, rule, rules_after, rules_at}
 use Rattle.pdb_image.specs.Records.{Rule, Change, changed, change_at, change_of, changes_of}
@@ -141,6 +143,16 @@ none_behind o (c ∷ codes) lt =
     or_from (eqb c.offset o) (list_any (λ (x : UnwindCode). eqb x.offset o) codes)
     (ne_eqb c.offset o (λ (e : c.offset ≡ o). absurd (omega arith)))
     (none_behind o codes (omega arith))
+
+-- above 0 no step of the tail is done
+pub any_above : (o n : ℕ) (codes : List UnwindCode) → 0 < o → last_offset (drop n codes) ≡ 0
+    → list_any (λ c. eqb c.offset o) (take n codes) ≡ list_any (λ c. eqb c.offset o) codes
+any_above o n codes above zeros =
+    let p = λ (c : UnwindCode). eqb c.offset o in
+    sym (ap (list_any p) (sym (take-append-drop n codes))
+    ∙ list_any-append p (take n codes) (drop n codes)
+    ∙ ap (λ (b : Bool). list_any p (take n codes) || b) (none_behind o (drop n codes) (omega arith))
+    ∙ or-false (list_any p (take n codes)))
 
 no_changes_behind : (f : UnwoundFunction) (n k : ℕ) → last_offset f.codes < k
     → flat_map (change_of f) (range_with_len k n) ≡ []

@@ -1,18 +1,17 @@
 -- What steps have done, one code after the other.
 use Rattle.std.proofs.Common.{◌≡◌, ℕ, ◌+◌, ◌^◌, ◌<◌, ◌≤◌, ◌||◌, List, [], ◌∷◌, Bool, true, false}
 use Rattle.std.proofs.Common.{cond, eqb, length, get_or, set, map, drop, replicate, refl, sym, ap, ◌∙◌}
-use Rattle.std.proofs.Common.{arith, inl, inr, subst, IfSome, unwrap_or}
+use Rattle.std.proofs.Common.{arith, inl, inr, leb, max, subst, IfSome, unwrap_or}
 use Rattle.std.proofs.Common.{get_or-set_other, length-set}
 use Rattle.std.specs.Prelude.{Option, None, Some}
 use Rattle.std.specs.List.{range_with_len}
-use Rattle.std.proofs.lemmas.List.Edits.{fill_by_more}
 use Rattle.std.proofs.lemmas.List.FromFn.{fill_by_all, get_or-map-range_with_len, length-map-range_with_len}
 use Rattle.std.proofs.lemmas.Grind.{get_or-set_at}
 use Rattle.std.proofs.lemmas.Bool.{cases_eq, eq-eqb, le-leb, lt-leb, ne_eqb}
 use Rattle.std.proofs.lemmas.List.{drop_more, drop_all, set_past}
 use Rattle.pdb_image.specs.Codes.{is_machine_frame}
 use Rattle.pdb_image.specs.Rules.{AreShort, IsShort, cfa_rule, depth, done, frame, frame_after}
-use Rattle.pdb_image.specs.Rules.{frame_set, growth_of, has_machine_frame}
+use Rattle.pdb_image.specs.Rules.{frame_set, growth_of, has_machine_frame, last_offset}
 use Rattle.pdb_image.specs.Rules.{register_rule, return_rule, rules_after, saved, saved_after}
 use Rattle.pdb_image.specs.Rules.{slot_rule, slots_after, slots_of, steps_after, steps_of}
 use Rattle.pdb_image.specs.declared.code.UnwindCode.{UnwindCode}
@@ -109,6 +108,37 @@ pub steps_none : (o i : ℕ) (codes : List UnwindCode) (start : Steps) → lengt
 steps_none o i codes start past e =
     e ∙ ap (λ (xs : List UnwindCode). steps_of (done o xs)) (sym (drop_all i codes past))
 
+-- ---- the tail
+
+pub tail_more : (i j : ℕ) (codes : List UnwindCode) (c : UnwindCode) → i < length codes
+    → i + 1 ≡ j → (get_or codes i c).offset ≡ 0 → last_offset (drop j codes) ≡ 0
+    → last_offset (drop i codes) ≡ 0
+tail_more i j codes c lt one first rest =
+    let all : last_offset (drop i codes) ≡ max (get_or codes i c).offset (last_offset (drop (i + 1) codes))
+    = ap last_offset (drop_more codes i c lt) in
+    let behind : last_offset (drop (i + 1) codes) ≡ 0
+    = ap (λ (n : ℕ). last_offset (drop n codes)) one ∙ rest in
+    omega arith
+
+pub tail_none : (i : ℕ) (codes : List UnwindCode) → length codes ≤ i
+    → last_offset (drop i codes) ≡ 0
+tail_none i codes past = ap last_offset (drop_all i codes past)
+
+-- the same steps of a tail are done at each offset
+done_tail : (o : ℕ) (codes : List UnwindCode) → last_offset codes ≡ 0
+    → done 0 codes ≡ done o codes
+done_tail o [] e = refl
+done_tail o (c ∷ codes) e =
+    ap (λ (xs : List UnwindCode). cond (leb c.offset 0) (c ∷ xs) xs)
+    (done_tail o codes (omega arith))
+    ∙ ap (λ (b : Bool). cond b (c ∷ done o codes) (done o codes))
+    (le-leb c.offset 0 (omega arith) ∙ sym (le-leb c.offset o (omega arith)))
+
+pub tail_steps : (o i : ℕ) (codes : List UnwindCode) (s : Steps)
+    → last_offset (drop i codes) ≡ 0 → s ≡ steps_of (done 0 (drop i codes))
+    → s ≡ steps_of (done o (drop i codes))
+tail_steps o i codes s zeros e = e ∙ ap steps_of (done_tail o (drop i codes) zeros)
+
 -- ---- what lies below the slot of the return address
 
 low_after : (op : UnwindOperation) (d n : ℕ) (x : Option Frame) → d ≤ n
@@ -136,22 +166,25 @@ low_of (Some f) d h = h
 
 -- the frame's lowest address isn't below the stack pointer
 pub frame_low : (steps : List UnwindCode) (s : Steps) (f : Frame) → s ≡ steps_of steps
-    → f ≡ frame steps → s.depth < 2 ^ 48 → f.low < 2 ^ 48
+    → f ≡ unwrap_or s.frame (record { register = 4; offset = 0; low = s.depth })
+    → s.depth < 2 ^ 48 → f.low < 2 ^ 48
 frame_low steps s f e is small =
-    let deep : s.depth ≡ depth steps = ap (λ (x : Steps). x.depth) e in
-    let low : f.low ≡ (frame steps).low = ap (λ (x : Frame). x.low) is in
-    let le : (frame steps).low ≤ depth steps = low_of (frame_set steps) (depth steps) (low_set steps) in
+    let low : IfSome s.frame (λ x. x.low ≤ s.depth)
+    = subst (λ (x : Steps). IfSome x.frame (λ y. y.low ≤ x.depth)) (sym e) (low_set steps) in
+    let same : f.low ≡ (unwrap_or s.frame (record { register = 4; offset = 0; low = s.depth })).low
+    = ap (λ (x : Frame). x.low) is in
+    let le = low_of s.frame s.depth low in
     omega arith
 
-short_if : (b : Bool) (d : ℕ) (s : Saved) (x : Option Saved) → IsShort s
-    → IfSome x IsShort → IfSome (cond b (Some s) x) IsShort
-short_if true d s x here h = here
-short_if false d s x here h = h
+short_if : (b : Bool) (s : Saved) (x : Option Saved) → IsShort s → IfSome x IsShort
+    → IfSome (cond b (Some s) x) IsShort
+short_if true s x here h = here
+short_if false s x here h = h
 
 short_after : (r : ℕ) (op : UnwindOperation) (d : ℕ) (x : Option Saved) → d < 2 ^ 48
     → IfSome x IsShort → IfSome (saved_after r op d x) IsShort
-short_after r (Push other) d x lt h = short_if (eqb other r) d (Below d) x lt h
-short_after r (Save other o) d x lt h = short_if (eqb other r) d (Above o) x tt h
+short_after r (Push other) d x lt h = short_if (eqb other r) (Below d) x lt h
+short_after r (Save other o) d x lt h = short_if (eqb other r) (Above o) x tt h
 short_after r (Allocate size) d x lt h = h
 short_after r (SetFrame other o) d x lt h = h
 short_after r (MachineFrame b) d x lt h = h
@@ -178,16 +211,6 @@ slots_short steps s e small k lt =
     (short_saved k steps (omega arith))
 
 -- ---- the rules by what the steps have done
-
--- one register's rule more
-pub rule_filled : (f : ℕ → Option Expression) (rules : List (Option Expression)) (i j : ℕ)
-    (x : Option Expression) → j ≡ i → x ≡ f i → i < length rules
-    → ((k : ℕ) → k < i → get_or rules k None ≡ f k)
-    → (k : ℕ) → k < i + 1 → get_or (set rules j x) k None ≡ f k
-rule_filled f rules i j x at is lt h k below =
-    ap (λ (n : ℕ). get_or (set rules n x) k None) at
-    ∙ ap (λ (y : Option Expression). get_or (set rules i y) k None) is
-    ∙ fill_by_more f rules i None lt h k below
 
 rules_made : Expression → Expression → List (Option Expression) → Rules
 rules_made cfa address saved = record { cfa = cfa; return_address = address; saved = saved }

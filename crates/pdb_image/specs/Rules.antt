@@ -3,6 +3,7 @@
 use Rattle.std.specs.Prelude.{ℕ, ◌+◌, ◌<◌, ◌^◌, max, ◌-ℤ◌, ℤ, pos, negsuc, Bool, true, false, List}
 use Rattle.std.specs.Prelude.{[], ◌∷◌, map, nat_le, ◌==◌, if◌then◌else◌, Option, None, Some}
 use Rattle.std.specs.Prelude.{IfSome, slice_index_or, slice_set, ◌||◌}
+use Rattle.std.specs.Prelude.{◌≡◌, ◌≤◌, ◌-◌, ◌*◌, drop, length}
 use Rattle.std.specs.Prelude.{unwrap_or}
 use Rattle.std.specs.Option.{option_map}
 use Rattle.std.specs.List.{filter, list_any, range_with_len}
@@ -19,6 +20,7 @@ use Rattle.pdb_image.specs.declared.frame.Frame.{Frame}
 use Rattle.pdb_image.specs.declared.frame.Saved.{Saved}
 use Rattle.pdb_image.specs.declared.frame.Saved.TheVariants.{Below, Above}
 use Rattle.pdb_image.specs.declared.frame.Steps.{Steps}
+use Rattle.pdb_image.specs.declared.frame.Tail.{Tail}
 
 -- ---- what the steps of a prolog have done; the last step stands first
 
@@ -124,6 +126,13 @@ AreShort slots = (k : ℕ) → k < 16 → IfSome (slice_index_or slots k None) I
 abbrev pub last_offset : List UnwindCode → ℕ
 last_offset [] = 0
 last_offset (code ∷ codes) = max code.offset (last_offset codes)
+
+-- The tail of codes: where it begins, and the effect of its steps. Each of its codes has offset 0.
+abbrev pub IsTail : List UnwindCode → Tail → Type 0
+IsTail codes tail =
+    (tail.begin ≤ length codes) × (last_offset (drop tail.begin codes) ≡ 0)
+    × (tail.steps ≡ steps_of (done 0 (drop tail.begin codes)))
+    × (tail.steps.depth ≤ 2 ^ 32 * (length codes - tail.begin))
 
 -- ---- expressions
 

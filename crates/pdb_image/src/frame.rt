@@ -3,7 +3,7 @@
 ghost use Rattle.std.specs.Prelude.{◌≡◌, ◌+◌, ◌^◌, ◌<◌, ◌≤◌, ◌∷◌, List, [], length};
 ghost use Rattle.std.specs.Prelude.{Some, slice_set};
 ghost use Rattle.pdb_image.specs.Rules.{done, frame as frame_of, growth_of as growth_by};
-ghost use Rattle.pdb_image.specs.Rules.{steps_after, steps_of};
+ghost use Rattle.pdb_image.specs.Rules.{IsTail, steps_after, steps_of};
 ghost use Rattle.pdb_image.specs.declared.code.UnwindCode.{UnwindCode as Code};
 
 use crate::code::{UnwindCode, UnwindOperation};
@@ -54,8 +54,11 @@ impl Steps {
     }
 
     /// The frame; the stack pointer's, if none was set.
+    #[tactic(auto, using(crate::proofs::Steps::frame_low))]
     pub(crate) fn frame(&self) -> Frame
-        ensures { (steps : List Code) → self.now ≡ steps_of steps → result ≡ frame_of steps }
+        ensures frame { (steps : List Code) → self.now ≡ steps_of steps → result ≡ frame_of steps }
+        ensures low { (steps : List Code) → self.now ≡ steps_of steps → self.now.depth < 2 ^ 48
+            → result.low < 2 ^ 48 }
     {
         self.frame.unwrap_or(Frame {
             register: STACK_POINTER,
@@ -129,15 +132,41 @@ fn growth_of(operation: UnwindOperation) -> u64
     }
 }
 
-/// The effect of the steps that are done at an offset.
-#[tactic(auto, using(crate::proofs::Steps::steps_more, crate::proofs::Steps::steps_none))]
-pub(crate) fn steps_at(codes: &[UnwindCode], offset: u32) -> Steps
-    requires { length codes.now < 2 ^ 16 }
+/// The tail of codes: those behind the last one whose offset isn't 0, so that their steps are done
+/// at each offset; where it begins in the codes, and the effect of its steps.
+#[derive(Drop)]
+pub(crate) struct Tail {
+    pub(crate) begin: usize,
+    pub(crate) steps: Steps,
+}
+
+impl Tail {
+    /// The tail of codes.
+    #[tactic(auto, using(crate::proofs::Steps::steps_more, crate::proofs::Steps::steps_none, crate::proofs::Steps::tail_more, crate::proofs::Steps::tail_none))]
+    pub(crate) fn of(codes: &[UnwindCode]) -> Tail
+        requires { length codes.now < 2 ^ 16 }
+        ensures { IsTail codes.now result }
+    {
+        let mut steps = Steps::none();
+        let mut begin = codes.len();
+        while begin > 0 && codes[begin - 1].offset == 0 {
+            begin -= 1;
+            steps.count(codes[begin], 0);
+        }
+        Tail { begin, steps }
+    }
+}
+
+/// The effect of the steps that are done at an offset, made on top of that of the codes' tail.
+#[tactic(auto, using(crate::proofs::Steps::steps_more, crate::proofs::Steps::tail_steps))]
+pub(crate) fn steps_at(codes: &[UnwindCode], tail: &Tail, offset: u32) -> Steps
+    requires count { length codes.now < 2 ^ 16 }
+    requires tail { IsTail codes.now tail.now }
     ensures steps { result ≡ steps_of (done offset codes.now) }
     ensures depth { result.depth < 2 ^ 48 }
 {
-    let mut steps = Steps::none();
-    let mut left = codes.len();
+    let mut steps = tail.steps;
+    let mut left = tail.begin;
     while left > 0 {
         left -= 1;
         steps.count(codes[left], offset);

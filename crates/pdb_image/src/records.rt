@@ -11,6 +11,7 @@ ghost use Rattle.pdb_image.specs.Texts.{change_text, changes_text, records_text}
 ghost use Rattle.pdb_image.specs.Texts.{changed_text, Appends};
 
 use crate::code::UnwindCode;
+use crate::frame::Tail;
 use crate::functions::UnwoundFunction;
 use crate::rules::{Expression, REGISTERS, Register, Rules};
 use crate::texts::append_rule;
@@ -142,14 +143,16 @@ impl UnwoundFunction {
         ensures { OnOk result (Appends text.old text.new
             (changes_text self.now (self.now.end - self.now.begin - 1))) }
     {
-        let size = self.end() - self.begin();
+        let (size, codes) = (self.end() - self.begin(), self.codes());
+        let tail = Tail::of(codes);
+        let front = &codes[..tail.begin];
         let mut rules = rules;
-        let end = size.min(last_offset(self.codes()) + 1);
+        let end = size.min(last_offset(codes) + 1);
         for offset in 1..end {
-            if !is_step_at(self.codes(), offset) {
+            if !is_step_at(front, offset) {
                 continue;
             }
-            let new = self.rules_at(offset);
+            let new = Rules::above(codes, &tail, offset);
             append_change(text, self.begin() + offset, &rules, &new)?;
             rules = new;
         }

@@ -3,13 +3,13 @@
 ghost use Rattle.std.specs.Prelude.{◌≡◌, ◌<◌, ◌^◌, IfSome, false, length, map, true};
 ghost use Rattle.std.specs.List.{range_with_len};
 ghost use Rattle.std.specs.Option.{option_map};
-ghost use Rattle.pdb_image.specs.Rules.{AreShort, IsShort, cfa_rule as cfa_rule_of};
+ghost use Rattle.pdb_image.specs.Rules.{AreShort, IsShort, IsTail, cfa_rule as cfa_rule_of};
 ghost use Rattle.pdb_image.specs.Rules.{difference as signed, return_rule as return_rule_of};
 ghost use Rattle.pdb_image.specs.Rules.{rule as rule_in, rules_at, saved_rule as saved_rule_of};
 ghost use Rattle.pdb_image.specs.Rules.{slot_rule as slot_rule_in};
 
 use crate::code::UnwindCode;
-use crate::frame::{Frame, Saved, steps_at};
+use crate::frame::{Frame, Saved, Tail, steps_at};
 
 /// A register that a rule finds, or begins with.
 #[derive(Clone, Copy, Debug, PartialEq, Eq)]
@@ -73,7 +73,18 @@ impl Rules {
         requires { length codes.now < 2 ^ 16 }
         ensures { result ≡ rules_at codes.now offset }
     {
-        let steps = steps_at(codes, offset);
+        Rules::above(codes, &Tail::of(codes), offset)
+    }
+
+    /// The rules after the steps that are done at an offset from the function's begin, made on top
+    /// of the codes' tail.
+    #[tactic(auto, using(crate::proofs::Steps::slots_short))]
+    pub(crate) fn above(codes: &[UnwindCode], tail: &Tail, offset: u32) -> Rules
+        requires count { length codes.now < 2 ^ 16 }
+        requires tail { IsTail codes.now tail.now }
+        ensures { result ≡ rules_at codes.now offset }
+    {
+        let steps = steps_at(codes, tail, offset);
         let (is_machine, frame) = (steps.is_machine, steps.frame());
         Rules {
             cfa: cfa_rule(is_machine, frame),
