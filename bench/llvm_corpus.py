@@ -152,28 +152,40 @@ FOREIGN = "a name of Rust or of Itanium (`_R..`, `_ZN..`)"
 NO_LINE = "a row of the line 0xfeefee or 0xf00f00"
 TWO_ROWS = "two rows of lines at one place"
 FOLDED = "equal functions that a linker folded into one"
+BLOCKS = "a function whose lines lie in several blocks"
+TWICE = "an inlined function that is listed twice"
+NO_NAME = "an inlined call whose stored name is empty"
 UNKNOWN = "no class"
 NO_LINES = (0xFEEFEE, 0xF00F00)
 
 
-def row_class(ours, theirs, offset, over):
+def row_class(ours, theirs, offset, over, blocks):
     """The class of two places of a function's own frame, by the rows over its offset of each
-    subsection of lines."""
+    subsection of lines, and by the last ones of each of several blocks."""
     rows = [row for _, rows in over for row in rows]
     if len(over) > 1:
         return FOLDED if {ours[1:], theirs[1:]} <= set(rows) else UNKNOWN
     is_first = len(rows) > 1 and over[0][0] == offset and rows[0] == theirs[1:]
-    return TWO_ROWS if is_first and rows[-1] == ours[1:] else UNKNOWN
+    if is_first and rows[-1] == ours[1:]:
+        return TWO_ROWS
+    return BLOCKS if ours[1:] in rows and theirs[1:] in blocks else UNKNOWN
+
+
+def call_class(ours, theirs, twice):
+    """The class of two places of a call, by the lines between entries of one inlined function."""
+    return TWICE if ours[0] == theirs[0] and ours[1] - theirs[1] in twice else UNKNOWN
 
 
 def name_class(ours, theirs, is_call, is_x86):
     """The class of two names that differ, of a call or the function itself."""
+    if is_call and (ours, theirs) == ("<name omitted>", ""):
+        return NO_NAME
     if is_call:
         return UNDERSCORE if is_x86 and ours == f"_{theirs}" else UNKNOWN
     return FOREIGN if ours.startswith(("_R", "_Z")) else UNKNOWN
 
 
-def frame_classes(ours, theirs, is_call, is_x86, offset, over):
+def frame_classes(ours, theirs, is_call, is_x86, rows, place):
     """The classes of two frames, of a call or the function itself: none if they are alike."""
     names = ours["FunctionName"], theirs["FunctionName"]
     given, wanted = place_of(ours), place_of(theirs)
@@ -182,7 +194,10 @@ def frame_classes(ours, theirs, is_call, is_x86, offset, over):
         return found
     if theirs["Line"] in NO_LINES:
         return found | {NO_LINE if given == ("", 0, 0) else UNKNOWN}
-    return found | {UNKNOWN if is_call else row_class(given, wanted, offset, over)}
+    if is_call:
+        return found | {call_class(given, wanted, set(rows.listed_twice(*place)) - {0})}
+    over, blocks = list(rows.rows_over(*place)), list(rows.blocks_over(*place))
+    return found | {row_class(given, wanted, place[1], over, blocks)}
 
 
 def place_of(frame):
@@ -198,10 +213,9 @@ def classes(ours, theirs, rows, is_x86, place):
     if len(ours) != len(theirs):
         return {LONG_CALL if len(ours) > len(theirs) and rows.is_open_at(*place) else UNKNOWN}
     last = len(ours) - 1
-    over = list(rows.rows_over(*place))
     found = set()
     for it, (a, b) in enumerate(zip(ours, theirs)):
-        found |= frame_classes(a, b, it < last, is_x86, place[1], over)
+        found |= frame_classes(a, b, it < last, is_x86, rows, place)
     return found
 
 

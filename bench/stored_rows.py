@@ -5,6 +5,7 @@ import struct
 MAGIC = b"Microsoft C/C++ MSF 7.00\r\n\x1aDS\0\0\0"
 NO_STREAM = 0xFFFF
 LINES = 0xF2
+INLINEES = 0xF6
 SUBSECTIONS = range(0xF1, 0xFE)
 PROCEDURES = (0x110F, 0x1110, 0x1146, 0x1147, 0x1155, 0x1156)
 # Inlined calls: where the annotations of their rows begin.
@@ -71,17 +72,18 @@ def subsections(data):
 
 def rows_of(data):
     """A subsection of lines: its section, the first offset, the first one after it, and the rows as
-    they are stored, each with its offset, line and column."""
+    they are stored, each with its offset, line and column, and the number of its block."""
     start, section, flags, size = struct.unpack_from("<IHHI", data)
-    at, rows = 12, []
+    at, rows, block = 12, [], 0
     while at < len(data):
         _, count, length = struct.unpack_from("<III", data, at)
         for it in range(count):
             offset, line = struct.unpack_from("<II", data, at + 12 + 8 * it)
             columns = at + 12 + 8 * count + 4 * it
             column = struct.unpack_from("<H", data, columns)[0] if flags & 1 else 0
-            rows.append((start + offset, line & 0xFF_FFFF, column))
+            rows.append((start + offset, line & 0xFF_FFFF, column, block))
         at += length
+        block += 1
     return section, start, start + size, rows
 
 
@@ -150,7 +152,29 @@ class Rows:
             before = [it[0] for it in rows if it[0] <= offset]
             if own == section and start <= offset < end and before:
                 begun = max(before)
-                yield begun, [it[1:] for it in rows if it[0] == begun]
+                yield begun, [it[1:3] for it in rows if it[0] == begun]
+
+    def blocks_over(self, section, offset):
+        """Of each block of a subsection of lines over a place that has several: line and column of the
+        last row at the place or before it, or, if there is none, of the first one."""
+        _, data = self.module(section, offset)
+        for kind, part in list(subsections(data)):
+            own, start, end, rows = rows_of(part) if kind == LINES else (0, 0, 0, [])
+            if own == section and start <= offset < end and len({it[3] for it in rows}) > 1:
+                first = {it[3]: it[1:3] for it in sorted(rows, reverse=True)}
+                last = {it[3]: it[1:3] for it in sorted(rows) if it[0] <= offset}
+                yield from (first | last).values()
+
+    def listed_twice(self, section, offset):
+        """How many lines lie between the first and the last entry of an inlined function that the
+        module of a place lists more than once."""
+        _, data = self.module(section, offset)
+        first = {}
+        for kind, part in list(subsections(data)):
+            step = 12 if kind == INLINEES and part[:4] == bytes(4) else 0
+            for at in range(4, len(part) - 11, step) if step else ():
+                function, _, line = struct.unpack_from("<III", part, at)
+                yield line - first.setdefault(function, line)
 
     def is_damaged(self, section, offset):
         """Whether lines of the module that holds a place can't be read."""
