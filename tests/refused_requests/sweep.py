@@ -14,11 +14,10 @@ nothing refused.
   read at an offset fails, in the Nth of as many as there are, ends with status 1 and `fault:
   File(Other)`, and what is out is a prefix, too.
 - `pdb_llvm_symbolizer`, on the cases of tests/llvm_symbolizer: such a run ends with status 1 and
-  says so on standard error, and what is out is a prefix. For such runs as go on exceptions.txt has
-  the reason too. A run whose Nth read at an offset fails says why the file can't be read, on
-  standard error or in JSON in the answer, and no line of it says anything else of an address than
-  that nothing is known; or it goes on as if nothing failed, where the database lies at a second
-  place, too.
+  says so on standard error, and what is out is a prefix, or goes on as one of `pdb_symbolizer` may.
+  A run whose Nth read at an offset fails says why the file can't be read, on standard error or in
+  JSON in the answer, and no line of it says anything else of an address than that nothing is known;
+  or it goes on as if nothing failed, where the database lies at a second place, too.
 - `pdb_symbols`, on databases of tests/symbols, alone and with an image: such a run ends as one of
   `pdb_symbolizer` has to, with a prefix of the symbol file. With `--output` the file that was there
   before stays as it was, and nothing is left beside it.
@@ -196,7 +195,8 @@ UNKNOWN_LINE = re.compile(
 class DropIn(Case):
     """A run of pdb_llvm_symbolizer."""
 
-    program, folder, fails_reads = "pdb_llvm_symbolizer", llvm_cases.DATA, True
+    program, folder = "pdb_llvm_symbolizer", llvm_cases.DATA
+    least_reads, fails_reads = 0, True
 
     def is_unread(self, wanted, came):
         """Whether a run in which a read failed is as it has to be."""
