@@ -155,8 +155,8 @@ class Rows:
                 yield begun, [it[1:3] for it in rows if it[0] == begun]
 
     def blocks_over(self, section, offset):
-        """Of each block of a subsection of lines over a place that has several: line and column of the
-        last row at the place or before it, or, if there is none, of the first one."""
+        """Of each block of a subsection of lines over a place that has several: line and column of
+        the last row at the place or before it, or, if there is none, of the first one."""
         _, data = self.module(section, offset)
         for kind, part in list(subsections(data)):
             own, start, end, rows = rows_of(part) if kind == LINES else (0, 0, 0, [])

@@ -132,7 +132,7 @@ fn growth_of(operation: UnwindOperation) -> u64
     }
 }
 
-/// The tail of codes: those behind the last one whose offset isn't 0, so that their steps are done
+/// The tail of codes: those after the last one whose offset isn't 0, so that their steps are done
 /// at each offset; where it begins in the codes, and the effect of its steps.
 #[derive(Drop)]
 pub(crate) struct Tail {

@@ -22,8 +22,8 @@ use std::io::{ErrorKind, Read, Write};
 use std::marker::{Model, PhantomData};
 use std::os::unix::fs::FileExt;
 
-/// The number of lines up to which a read is made ready for, even where nothing was missing the last
-/// time: to find the modules of many lines takes a twentieth of the time of their answers.
+/// The number of lines up to which a read is made ready for even where nothing was missing the
+/// last time: to find the modules of many lines takes a twentieth of the time of their answers.
 const SHORT_READ: usize = 1000;
 
 /// A file that is asked for the answers to lines, whose names are made with the default flags; room
