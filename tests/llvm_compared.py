@@ -173,15 +173,49 @@ def reads_as_far_as_headers():
     return is_told and ran.stdout == NO_REQUEST + FRAMES + FRAMES
 
 
+def write_apart(image, path, gap):
+    """Writes an image with so many zeros before the section that holds its debug directory."""
+    (headers,) = struct.unpack_from("<I", image, 60)
+    (size,) = struct.unpack_from("<H", image, headers + 20)
+    image = bytearray(image)
+    debug, length = struct.unpack_from("<2I", image, headers + 24 + 160)
+    header = headers + 24 + size + 40
+    address, _, place = struct.unpack_from("<3I", image, header + 12)
+    assert image[header : header + 6] == b".rdata" and address <= debug
+    moved = [header + 20]
+    first = place + debug - address
+    moved += [entry + 24 for entry in range(first, first + length, 28)]
+    for pointer in moved:
+        (before,) = struct.unpack_from("<I", image, pointer)
+        struct.pack_into("<I", image, pointer, before + gap)
+    with open(path, "wb") as file:
+        file.write(image[:place])
+        file.seek(place + gap)
+        file.write(image[place:])
+
+
+def reads_images_by_places():
+    """Whether an image with 2 GB of zeros among its sections is answered within 64 MB of memory."""
+    limit = lambda: resource.setrlimit(resource.RLIMIT_AS, (MEMORY, MEMORY))
+    with tempfile.TemporaryDirectory() as room:
+        copied_data(room)
+        with open(f"{llvm_cases.DATA}/x64.exe", "rb") as file:
+            write_apart(file.read(), f"{room}/x64.exe", 2 << 30)
+        return answers(room, {}, "--obj=x64.exe", preexec_fn=limit)
+
+
 def finds_in_stores():
     """Whether a database is found in symbol stores, and beside its image, whatever the case of names:
     in stores of one level and of two, by arguments and by the environment, for an image, and by a
-    line that names it or the image by its identity."""
+    line that names it or the image by its identity; also where other folders of the same name, but
+    for the case of letters, don't have it."""
     with tempfile.TemporaryDirectory() as room:
         shutil.copy(f"{llvm_cases.DATA}/x64.exe", room)
         for store, path in STORES.items():
             os.makedirs(os.path.dirname(f"{room}/{store}/{path}"))
             shutil.copy(f"{llvm_cases.DATA}/x64.pdb", f"{room}/{store}/{path}")
+        for folder in ("one/X64.PDB", f"one/x64.PDB/{DATABASE}", "two/X6", "other/x64.pdb"):
+            os.makedirs(f"{room}/{folder}")
         image = f"{room}/one/x64.exe/{IMAGE}"
         os.makedirs(image)
         shutil.copy(f"{llvm_cases.DATA}/x64.exe", image)
@@ -219,11 +253,11 @@ def passes_over_other_builds():
         return is_found and refuses(room, words, f"'{name}': the PDB is of another build")
 
 
-def answers(room, environment, *words):
+def answers(room, environment, *words, **how):
     """Whether the program answers one address with these arguments."""
     ran = subprocess.run(
         ["timeout", str(SECONDS), program, *words, "--relative-address", "0x1148"],
-        cwd=room, env={**os.environ, **environment}, input=b"", capture_output=True,
+        cwd=room, env={**os.environ, **environment}, input=b"", capture_output=True, **how,
     )
     return (ran.returncode, ran.stdout, ran.stderr) == (0, FRAMES, b"")
 
@@ -248,7 +282,8 @@ for name in names:
         print(f"{name}: otherwise than llvm-symbolizer, and not as {name}.differs says:")
         print(differs.decode(errors="replace"))
 TESTS = (answers_in_turn, bounds_lines, opens_regular_files, reads_as_far_as_headers)
-TESTS += (finds_in_stores, passes_over_other_builds, ends_where_input_is_closed)
+TESTS += (reads_images_by_places, finds_in_stores, passes_over_other_builds)
+TESTS += (ends_where_input_is_closed,)
 TESTS = () if is_unproved else TESTS
 for test in TESTS:
     if not test():

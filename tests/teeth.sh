@@ -75,7 +75,7 @@ over_nothing refused_requests/sweep.py 4 row_one-line_F 'llvm llvm' \
     'read sections plain.pdb 2608:0b' 'formatter signatures.hex 23'
 over_nothing commands.sh 8 --quick README.md
 over_nothing manual.sh 1
-over_nothing llvm_symbolizer.sh 8 llvm
+over_nothing llvm_symbolizer.sh 9 llvm
 over_nothing llvm_protocol.py 223
 over_nothing llvm_clients.py 1
 over_nothing stack.py 16

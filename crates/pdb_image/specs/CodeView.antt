@@ -40,10 +40,15 @@ abbrev pub place_of : ℕ → List ImageSectionHeader → Option ℕ
 place_of address [] = None
 place_of address (s ∷ sections) = option_or (place_in address s) (place_of address sections)
 
+-- the place of the debug directory in the file
+abbrev pub directory_place : Image → DataDirectory → Result ℕ ImageError
+directory_place image d =
+    ok_or (place_of d.address image.sections) (faults.DebugDirectoryNotFound d.address)
+
 -- the bytes of the debug directory, which are all there
 unfoldable pub directory_of : Image → DataDirectory → Result (List ℕ) ImageError
 directory_of image d = do
-  place ← ok_or (place_of d.address image.sections) (faults.DebugDirectoryNotFound d.address)
+  place ← directory_place image d
   ok_or (part image.file place d.size) faults.DebugDirectoryPastEnd
 
 -- an entry of the debug directory is of type 2, CodeView

@@ -72,7 +72,7 @@ pub(crate) fn file_place(sections: &[[u8; 40]], address: u32) -> Option<usize>
 }
 
 /// Whether an entry of the debug directory is of type 2, CodeView.
-fn is_code_view(entry: &[u8; 28]) -> bool
+pub(crate) fn is_code_view(entry: &[u8; 28]) -> bool
     ensures { result ≡ is_code_view_entry entry.now }
 {
     word_at(entry, 12) == 2
@@ -131,7 +131,7 @@ fn parse_record<'a>(file: &'a [u8], entry: &[u8; 28]) -> Result<CodeView<'a>, Im
 
 /// The CodeView record in the bytes of an RSDS record.
 #[tactic(auto, unfolding(crate::specs::CodeView::rsds_of))]
-fn parse_rsds(bytes: &[u8]) -> Result<CodeView<'_>, ImageError>
+pub(crate) fn parse_rsds(bytes: &[u8]) -> Result<CodeView<'_>, ImageError>
     ensures { result ≡ rsds_of bytes.now }
 {
     if bytes.len() < 24 {

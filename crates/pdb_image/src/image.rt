@@ -4,6 +4,7 @@ ghost use Rattle.std.specs.Prelude.{◌≡◌, Some, IfSome, length, option_map,
 ghost use Rattle.pdb_addresses.specs.Sections.{header_in};
 ghost use Rattle.pdb_image.specs.Image.{image_of};
 ghost use Rattle.pdb_image.specs.CodeView.{Returns, code_view_of, directory_of};
+ghost use Rattle.pdb_image.specs.CodeView.{directory_place as directory_place_of};
 ghost use Rattle.pdb_image.specs.Tables.{bytes_at, exception_directory_of};
 
 use crate::code_view::{CodeView, file_place, parse_record_in};
@@ -180,14 +181,28 @@ impl<'a> Image<'a> {
         part(self.file, whole_place(self.sections, address, size)?, size)
     }
 
+    /// The address and size of the debug directory, if there is one.
+    pub(crate) fn debug(&self) -> Option<DataDirectory>
+        ensures { result ≡ self.now.debug }
+    {
+        self.debug
+    }
+
+    /// The place of the debug directory in the file.
+    pub(crate) fn directory_place(&self, debug: DataDirectory) -> Result<usize, ImageError>
+        ensures { result ≡ directory_place_of self.now debug }
+    {
+        file_place(self.sections, debug.address).ok_or(ImageError::DebugDirectoryNotFound(
+            debug.address,
+        ))
+    }
+
     /// The bytes of the debug directory, which are all in the file.
     #[tactic(auto, unfolding(crate::specs::CodeView::directory_of))]
     fn directory(&self, debug: DataDirectory) -> Result<&'a [u8], ImageError>
         ensures { Returns (λ bytes. bytes.now) result (directory_of self.now debug) }
     {
-        let Some(place) = file_place(self.sections, debug.address) else {
-            return Err(ImageError::DebugDirectoryNotFound(debug.address));
-        };
+        let place = self.directory_place(debug)?;
         part(self.file, place, debug.size as usize).ok_or(ImageError::DebugDirectoryPastEnd)
     }
 }

@@ -9,22 +9,13 @@ use crate::stores::find_in_stores;
 use bumpalo::Bump;
 use pdb_addr2line::{ContributionOrder, FileOnDemand, FileSymbolizer, TypeFormatterFlags};
 use pdb_file_views::reach;
-use pdb_image::{CodeView, Image, PdbIdentity, read_image};
+use pdb_image::{CodeView, ImageRecord, PdbIdentity};
 use pdb_llvm_protocol::{split_identity, without_architecture};
 use std::alloc::{AllocError, Global};
 use std::fs;
 use std::io::{self, ErrorKind};
 use std::os::unix::fs::FileExt;
 use std::rt::Files;
-
-/// The base of an image, and the record of its database.
-fn image_record(bytes: &[u8]) -> Result<(u64, CodeView<'_>), OpenError> {
-    let image = Image::parse(bytes)?;
-    match image.code_view()? {
-        Some(record) => Ok((image.image_base(), record)),
-        None => Err(OpenError::NoDatabase),
-    }
-}
 
 /// The name at the end of a path that an image has.
 fn file_name(path: &str) -> &str {
@@ -179,10 +170,12 @@ fn database_of_image<'a, F: FileExt + Drop>(
     }
 }
 
-/// The bytes of an image, as far as its headers and its sections' data reach.
-fn image_bytes(rt: &(impl Files + AllocGlobal), path: &str) -> io::Result<Vec<u8>> {
-    let (mut file, _) = open_regular(rt, path)?;
-    read_image(rt.alloc(), &mut file)
+/// The record of an image's database, of an image's file of so many bytes.
+fn image_record(alloc: Global, file: &impl FileExt, size: u64) -> Result<ImageRecord, OpenError> {
+    match ImageRecord::read(alloc, file, size)? {
+        Some(record) => Ok(record),
+        None => Err(OpenError::NoDatabase),
+    }
 }
 
 /// The file of an image's database that is given.
@@ -202,17 +195,16 @@ fn given_database<'a, F: FileExt + Drop>(
 fn open_image<'a, F: FileExt + Drop>(
     rt: &(impl Files<File = F> + AllocGlobal),
     arena: &'a Bump,
-    file: &str,
+    (file, image): (&str, &ImageRecord),
     arguments: &Arguments<'_>,
 ) -> Result<FileAnswers<'a, F>, OpenError> {
-    let bytes = image_bytes(rt, file)?;
-    let (image_base, record) = image_record(bytes.as_slice())?;
+    let record = image.code_view()?;
     let database = match arguments.choices.database {
         Some(given) => given_database(rt, arena, given, record.identity()),
         None => database_of_image(rt, arena, file, &record, &arguments.choices.stores),
     };
     match database {
-        Ok(database) => load(rt.alloc(), database, image_base),
+        Ok(database) => load(rt.alloc(), database, image.image_base),
         Err(error) => Err(error),
     }
 }
@@ -246,7 +238,8 @@ fn open_file<'a, F: FileExt + Drop>(
 ) -> Result<FileAnswers<'a, F>, OpenError> {
     let (file, size) = open_regular(rt, path)?;
     if is_image(&file)? {
-        return open_image(rt, arena, path, arguments);
+        let image = image_record(rt.alloc(), &file, size)?;
+        return open_image(rt, arena, (path, &image), arguments);
     }
     let mut read = read_on_demand(rt.alloc(), arena, file, size)?;
     match check_asked(rt.alloc(), &mut read, identity) {

@@ -30,27 +30,44 @@ pub fn unless_memory<T: Drop>(given: io::Result<T>) -> Result<Option<T>, AllocEr
     }
 }
 
-/// The path of a name in a folder that is this one but for the case of its letters; None where
-/// there is none, and where the folder can't be listed.
-fn path_in_other_case(
+/// Appends the paths of the names in a folder that are this one but for the case of their letters;
+/// none where the folder can't be listed.
+///
+/// # Errors
+/// Where memory ran out.
+pub fn push_in_other_case(
+    rt: &(impl Files + AllocGlobal),
+    folder: &str,
+    name: &str,
+    paths: &mut Vec<String>,
+) -> Result<(), AllocError> {
+    let listed = if folder.is_empty() { "." } else { folder };
+    let Some(entries) = unless_memory(fs::read_dir(&rt, listed))? else {
+        return Ok(());
+    };
+    for entry in entries {
+        if let Some(entry) = unless_memory(entry)? {
+            let other = entry.file_name();
+            if other != name && other.eq_ignore_ascii_case(name) {
+                paths.push(joined(rt, folder, other)?)?;
+            }
+        }
+    }
+    Ok(())
+}
+
+/// The path of a name in a folder, if it is there.
+///
+/// # Errors
+/// Where memory ran out.
+pub fn find_exactly(
     rt: &(impl Files + AllocGlobal),
     folder: &str,
     name: &str,
 ) -> Result<Option<String>, AllocError> {
-    let listed = if folder.is_empty() { "." } else { folder };
-    let Some(entries) = unless_memory(fs::read_dir(&rt, listed))? else {
-        return Ok(None);
-    };
-    for entry in entries {
-        match unless_memory(entry) {
-            Ok(Some(entry)) if entry.file_name().eq_ignore_ascii_case(name) => {
-                return joined(rt, folder, entry.file_name()).map(Some);
-            }
-            Ok(_) => {}
-            Err(error) => return Err(error),
-        }
-    }
-    Ok(None)
+    let path = joined(rt, folder, name)?;
+    let is_there = unless_memory(fs::exists(rt, path.as_str()))?;
+    Ok(is_there.unwrap_or(false).then_some(path))
 }
 
 /// The path of a name in a folder, of this name or otherwise of one in other case; None where
@@ -63,10 +80,11 @@ pub fn find_in(
     folder: &str,
     name: &str,
 ) -> Result<Option<String>, AllocError> {
-    let path = joined(rt, folder, name)?;
-    match unless_memory(fs::exists(rt, path.as_str())) {
-        Ok(Some(true)) => Ok(Some(path)),
-        Ok(_) => path_in_other_case(rt, folder, name),
-        Err(error) => Err(error),
+    let found = find_exactly(rt, folder, name)?;
+    if found.is_some() {
+        return Ok(found);
     }
+    let mut paths = Vec::new(rt.alloc());
+    push_in_other_case(rt, folder, name, &mut paths)?;
+    Ok(paths.into_iter().next())
 }

@@ -1,7 +1,7 @@
 //! Why a file can't be loaded.
 
 use pdb_addr2line::{FileFault, LoadFault};
-use pdb_image::ImageError;
+use pdb_image::{ImageError, RecordFault};
 use std::alloc::{AllocError, AllocFailed};
 use std::io::{self, ErrorKind};
 use thiserror::Error;
@@ -39,6 +39,15 @@ impl OpenError {
 impl From<ImageError> for OpenError {
     fn from(cause: ImageError) -> OpenError {
         OpenError::Image(cause)
+    }
+}
+
+impl From<RecordFault> for OpenError {
+    fn from(cause: RecordFault) -> OpenError {
+        match cause {
+            RecordFault::File(error) => OpenError::from(error),
+            RecordFault::Image(error) => OpenError::Image(error),
+        }
     }
 }
 

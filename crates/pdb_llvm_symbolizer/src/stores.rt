@@ -1,31 +1,54 @@
 //! Symbol stores: folders in which databases and images lie by their names and identities.
 
-use crate::folders::find_in;
+use crate::folders::{find_exactly, push_in_other_case};
 use std::alloc::AllocError;
 use std::rt::Files;
 
-/// The path of a name in a folder that was found.
-fn find_within(
+/// The paths of a name in folders, in whatever case it is written, of each folder that in the same
+/// case first.
+fn all_in(
     rt: &(impl Files + AllocGlobal),
-    found: Result<Option<String>, AllocError>,
+    folders: &[String],
     name: &str,
-) -> Result<Option<String>, AllocError> {
-    match found {
-        Ok(Some(folder)) => find_in(rt, folder.as_str(), name),
-        _ => found,
+) -> Result<Vec<String>, AllocError> {
+    let mut paths = Vec::new(rt.alloc());
+    for folder in folders {
+        if let Some(path) = find_exactly(rt, folder.as_str(), name)? {
+            paths.push(path)?;
+        }
+        push_in_other_case(rt, folder.as_str(), name, &mut paths)?;
     }
+    Ok(paths)
 }
 
-/// The path of a file of this identity in a folder: `NAME/IDENTITY/NAME`.
-fn find_below(
+/// The first path that leads from a folder through these names, in whatever case they are written.
+/// Folders may differ in case alone, so each is followed.
+fn find_in_any_case(
     rt: &(impl Files + AllocGlobal),
     folder: &str,
-    name: &str,
-    identity: &str,
+    names: &[&str],
 ) -> Result<Option<String>, AllocError> {
-    let named = find_in(rt, folder, name);
-    let identified = find_within(rt, named, identity);
-    find_within(rt, identified, name)
+    let mut paths = Vec::new(rt.alloc());
+    paths.push(String::from_str(rt.alloc(), folder)?)?;
+    for name in names {
+        paths = all_in(rt, &paths, *name)?;
+    }
+    Ok(paths.into_iter().next())
+}
+
+/// The path that leads from a folder through these names, as they are written or otherwise in other
+/// case.
+fn find_through(
+    rt: &(impl Files + AllocGlobal),
+    folder: &str,
+    names: &[&str],
+) -> Result<Option<String>, AllocError> {
+    let path = names.join(rt.alloc(), "/")?;
+    let found = find_exactly(rt, folder, path.as_str())?;
+    match found {
+        Some(path) => Ok(Some(path)),
+        None => find_in_any_case(rt, folder, names),
+    }
 }
 
 /// The path of a file of this name and identity in a store: at `NAME/IDENTITY/NAME`, or in the
@@ -36,13 +59,10 @@ fn find_in_store(
     name: &str,
     identity: &str,
 ) -> Result<Option<String>, AllocError> {
-    let found = find_below(rt, store, name, identity);
-    let (Ok(None), Some(letters)) = (&found, name.get(..2)) else {
-        return found;
-    };
-    match find_in(rt, store, letters) {
-        Ok(Some(folder)) => find_below(rt, folder.as_str(), name, identity),
-        found => found,
+    let found = find_through(rt, store, &[name, identity, name])?;
+    match (found, name.get(..2)) {
+        (None, Some(letters)) => find_through(rt, store, &[letters, name, identity, name]),
+        (found, _) => Ok(found),
     }
 }
 

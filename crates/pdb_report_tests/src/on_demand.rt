@@ -18,7 +18,7 @@ const INPUT: &[u8] = b"0x1000\n0x1001\n0xfff\nx\n0x100f\n0x2000\n";
 
 /// A file in memory, of which the read with that number fails, if there is one.
 #[derive(Drop)]
-struct InMemory {
+pub(crate) struct InMemory {
     bytes: Vec<u8>,
     reads: Cell<u64>,
     fails: u64,
@@ -38,6 +38,15 @@ impl FileExt for InMemory {
 
     fn write_at(&self, _buf: &[u8], _offset: u64) -> io::Result<usize> {
         Err(ErrorKind::Unsupported.into())
+    }
+}
+
+/// A file of these bytes, which can be read.
+pub(crate) fn readable(bytes: Vec<u8>) -> InMemory {
+    InMemory {
+        bytes,
+        reads: Cell::new(0),
+        fails: 0,
     }
 }
 

@@ -3,7 +3,8 @@
 //! of the rest. The expected values come from `llvm-readobj` and `objdump` on these bytes and on
 //! the whole files, and from `llvm-pdbutil` on their PDBs.
 
-use pdb_image::{CodeView, Image, ImageError, PdbIdentity};
+use crate::on_demand::readable;
+use pdb_image::{CodeView, Image, ImageError, ImageRecord, PdbIdentity, RecordFault};
 use pdb_samples::{SampleError, overwrite};
 use std::alloc::Global;
 use std::test::Fail;
@@ -111,6 +112,26 @@ fn wide_image(rt: HostRuntime) -> Result<(), Fail> {
     );
     let pdb = PdbIdentity::of_pdb(record.identity().guid, 7, Some(1));
     assert!(rt; names_pdb(bytes.as_slice(), &pdb)?);
+    Ok(())
+}
+
+// What is read by places is what the whole file has; a file that ends in its record is refused.
+#[test]
+fn record_by_places(rt: HostRuntime) -> Result<(), Fail> {
+    let alloc = rt.alloc();
+    let wide = readable(file(alloc, 2560, &WIDE)?);
+    let image = ImageRecord::read(alloc, &wide, 2560)?.ok_or("no record")?;
+    assert_eq!(rt; image.image_base, 0x1_4000_0000);
+    assert!(rt;
+        is_of(
+            alloc,
+            &image.code_view()?,
+            "6EFC69002F4FCD5D4C4C44205044422E1",
+            "wide.pdb"
+        )?
+    );
+    let short = ImageRecord::read(alloc, &wide, 0x630);
+    assert!(rt; matches!(short, Err(RecordFault::Image(ImageError::RecordPastEnd))));
     Ok(())
 }
 
