@@ -1,25 +1,24 @@
 //! The record of an image's database, read from the image's file by places: no more of the file is
 //! read than that takes, however large it is.
 
-ghost use Rattle.std.specs.Prelude.{◌≡◌};
+ghost use Rattle.std.specs.Prelude.{◌≡◌, ◌-◌, length, min, IfOk, IfSome};
 ghost use Rattle.pdb_image.specs.CodeView.{rsds_of};
 
 use crate::code_view::{CodeView, is_code_view, parse_rsds};
 use crate::error::ImageError;
 use crate::image::Image;
 use crate::optional_header::DataDirectory;
-use pdb_container::word_at;
+use pdb_container::{half_at, word_at};
 use std::alloc::{AllocError, Global};
 use std::io;
 use std::os::unix::fs::FileExt;
 use thiserror::Error;
 
-/// The number of bytes of an image that are read first.
-const FRONT: u64 = 4096;
+/// The size of a DOS header in bytes: in its last four stands the place of the PE signature.
+const DOS_HEADER: u64 = 64;
 
-/// The greatest number of times that the beginning of an image is read. Each time twice as many
-/// bytes are read, so that the last time has all of a file.
-const STEPS: u32 = 64;
+/// The size of PE signature and COFF header in bytes.
+const COFF_HEADER: u64 = 24;
 
 /// The reason that the record of an image's database can't be read.
 #[derive(Debug, Drop, Error)]
@@ -47,33 +46,47 @@ struct Places<'f, F> {
 
 impl<'f, F: FileExt> Places<'f, F> {
     /// The `size` bytes from a place on; `None` where the file ends before.
-    fn part(&self, alloc: Global, place: u64, size: u64) -> io::Result<Option<Vec<u8>>> {
+    fn part(&self, alloc: Global, place: u64, size: u64) -> io::Result<Option<Vec<u8>>>
+        ensures { IfOk result (λ found. IfSome found (λ part. length part.items ≡ size)) }
+    {
         if self.size < place || self.size - place < size {
             return Ok(None);
         }
-        let mut bytes = vec![in alloc; 0u8; size as usize]?;
-        self.file.read_exact_at(&mut bytes, place)?;
-        Ok(Some(bytes))
+        match self.part_within(alloc, place, size) {
+            Ok(part) => Ok(Some(part)),
+            Err(error) => Err(error),
+        }
     }
 
-    /// The beginning of the file, up to an end or to the file's.
-    fn front(&self, alloc: Global, end: u64) -> io::Result<Vec<u8>> {
-        let mut bytes = vec![in alloc; 0u8; end.min(self.size) as usize]?;
-        self.file.read_exact_at(&mut bytes, 0)?;
+    /// The bytes from a place on, `size` or as many as the file has.
+    fn part_within(&self, alloc: Global, place: u64, size: u64) -> io::Result<Vec<u8>>
+        ensures { IfOk result (λ part. length part.items ≡ min size (self.now.size - place)) }
+    {
+        let size = size.min(self.size.saturating_sub(place));
+        let mut bytes = vec![in alloc; 0u8; size as usize]?;
+        self.file.read_exact_at(&mut bytes, place)?;
         Ok(bytes)
     }
 
-    /// The beginning of the file, so far that its headers are there, if they are in the file.
+    /// The headers from the PE signature on, as far as the file has them.
+    fn pe_headers(&self, alloc: Global, place: u64) -> io::Result<Vec<u8>> {
+        let Some(coff) = self.part(alloc, place, COFF_HEADER)? else {
+            return self.part_within(alloc, place, COFF_HEADER);
+        };
+        let optional_header = u64::from(half_at(&coff, 20));
+        let sections = 40 * u64::from(half_at(&coff, 6));
+        self.part_within(alloc, place, COFF_HEADER + optional_header + sections)
+    }
+
+    /// The headers of an image, with the PE signature right behind the DOS header, wherever the
+    /// file has it.
     fn headers(&self, alloc: Global) -> io::Result<Vec<u8>> {
-        let mut end = FRONT;
-        let mut bytes = self.front(alloc, end)?;
-        for _ in 0..STEPS {
-            if self.size <= end || !lies_further(&bytes) {
-                break;
-            }
-            end = end.saturating_mul(2);
-            bytes = self.front(alloc, end)?;
-        }
+        let Some(mut bytes) = self.part(alloc, 0, DOS_HEADER)? else {
+            return self.part_within(alloc, 0, DOS_HEADER);
+        };
+        let headers = self.pe_headers(alloc, u64::from(word_at(&bytes, 60)))?;
+        bytes[60..].copy_from_slice(&[DOS_HEADER as u8, 0, 0, 0]);
+        bytes.extend_from_slice(&headers)?;
         Ok(bytes)
     }
 
@@ -128,14 +141,6 @@ impl<'f, F: FileExt> Places<'f, F> {
             None => Err(ImageError::RecordPastEnd.into()),
         }
     }
-}
-
-/// Whether the headers of an image reach further than these bytes of its file.
-fn lies_further(front: &[u8]) -> bool {
-    matches!(
-        Image::parse(front),
-        Err(ImageError::HeadersPastEnd | ImageError::SectionsPastEnd)
-    )
 }
 
 /// The record of an image's database, which is read from the image's file by places.
