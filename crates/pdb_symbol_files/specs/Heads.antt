@@ -43,8 +43,13 @@ module_text machine identity path =
     machine_text (machine_name machine)
     ++ identity_text identity (told_text (Some (file_name path)))
 
--- the INFO record: an image's time stamp and size, and its path
+-- the INFO record: an image's time stamp and size, and the name of its file
+abbrev pub image_text : ℕ → ℕ → List ℕ → List ℕ
+image_text time_stamp size name =
+    codes "INFO CODE_ID " ++ eight_digits time_stamp ++ hexadecimal size ++ codes " "
+    ++ name ++ 10 ∷ []
+
+-- the same by an image's time stamp and size, and its path
 abbrev pub code_id_text : ℕ → ℕ → List ℕ → List ℕ
 code_id_text time_stamp size path =
-    codes "INFO CODE_ID " ++ eight_digits time_stamp ++ hexadecimal size ++ codes " "
-    ++ told_text (Some (file_name path)) ++ 10 ∷ []
+    image_text time_stamp size (told_text (Some (file_name path)))

@@ -10,7 +10,7 @@ use pdb_addresses::ImageSectionHeader;
 use std::alloc::{AllocError, Global};
 
 /// A range of addresses; the address at its end isn't part of it.
-#[derive(Clone, Copy, Debug, PartialEq, Eq)]
+#[derive(Clone, Copy, PartialEq, Eq)]
 pub struct AddressRange {
     /// The first address.
     pub start: u32,

@@ -3,7 +3,7 @@
 ghost use Rattle.std.specs.Prelude.{◌≡◌, OnOk};
 ghost use Rattle.pdb_symbol_files.specs.Output.{IsAppended};
 ghost use Rattle.pdb_symbol_files.specs.Heads.{code_id_text, file_name as file_name_of};
-ghost use Rattle.pdb_symbol_files.specs.Heads.{identity_text, machine_text};
+ghost use Rattle.pdb_symbol_files.specs.Heads.{identity_text, image_text, machine_text};
 ghost use Rattle.pdb_symbol_files.specs.Heads.{machine_name as machine_name_of};
 ghost use Rattle.pdb_symbol_files.specs.Heads.{module_text};
 
@@ -25,7 +25,6 @@ fn machine_name(machine: u16) -> &'static str
 }
 
 /// The text after the last slash of a path; all of a path without one.
-
 fn file_name(path: &str) -> &str
     ensures { result.now ≡ file_name_of path.now }
 {
@@ -70,6 +69,22 @@ pub fn append_module(
     append_identity(identity, name.as_str(), output)
 }
 
+/// Appends the INFO record of an image, by its time stamp, its size, and the name of its file.
+fn append_image(
+    time_stamp: u32,
+    size_of_image: u32,
+    name: &str,
+    output: &mut String,
+) -> Result<(), AllocError>
+    ensures { OnOk result (IsAppended output.old output.new
+        (image_text time_stamp size_of_image name.now)) }
+{
+    write!(
+        output,
+        "INFO CODE_ID {time_stamp:08X}{size_of_image:x} {name}\n"
+    )
+}
+
 /// Appends the INFO record of an image: its time stamp and its size, and the name of its file.
 ///
 /// # Errors
@@ -85,8 +100,5 @@ pub fn append_code_id(
         (code_id_text time_stamp size_of_image path.now)) }
 {
     let name = told_text(alloc, Some(file_name(path)))?;
-    write!(
-        output,
-        "INFO CODE_ID {time_stamp:08X}{size_of_image:x} {name}\n"
-    )
+    append_image(time_stamp, size_of_image, name.as_str(), output)
 }

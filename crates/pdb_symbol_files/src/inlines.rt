@@ -19,7 +19,7 @@ use std::alloc::{AllocError, Global};
 use std::marker::Model;
 
 /// An inlined call, and the calls around it, the outermost one first.
-#[derive(Debug, Drop)]
+#[derive(Drop)]
 pub(crate) struct Path<'p> {
     pub(crate) outer: &'p [Call],
     pub(crate) call: &'p Call,
@@ -34,7 +34,7 @@ impl<'p> Model for Path<'p> {
 }
 
 /// Addresses with one path at a level of calls.
-#[derive(Debug, Drop)]
+#[derive(Drop)]
 pub(crate) struct CallStretch<'p> {
     pub(crate) start: u32,
     pub(crate) end: u64,

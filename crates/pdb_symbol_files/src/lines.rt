@@ -16,7 +16,7 @@ use std::alloc::{AllocError, Global};
 use std::marker::Model;
 
 /// A place in a source file.
-#[derive(Debug, Drop)]
+#[derive(Drop)]
 pub(crate) struct SourcePlace<'p> {
     pub(crate) file: &'p str,
     pub(crate) line: u32,
@@ -31,7 +31,7 @@ impl<'p> Model for SourcePlace<'p> {
 }
 
 /// Addresses with one place of the innermost frame.
-#[derive(Debug, Drop)]
+#[derive(Drop)]
 pub(crate) struct LineStretch<'p> {
     pub(crate) start: u32,
     pub(crate) end: u64,

@@ -7,7 +7,7 @@ ghost use Rattle.pdb_symbol_files.specs.Told.{same_call as is_same_call};
 use std::marker::Model;
 
 /// An inlined call: the function that was called, and the place of the call.
-#[derive(Debug, Drop)]
+#[derive(Drop)]
 pub struct Call {
     /// The source file of the place of the call.
     pub file: String,
@@ -31,7 +31,7 @@ impl Model for Call {
 }
 
 /// The function, the inlined calls and the place that a symbol file tells of an address.
-#[derive(Debug, Drop)]
+#[derive(Drop)]
 pub struct Told {
     /// The address at which the function begins, if it is known.
     pub start: Option<u32>,
@@ -61,7 +61,7 @@ impl Model for Told {
 }
 
 /// A range of addresses with one answer.
-#[derive(Debug, Drop)]
+#[derive(Drop)]
 pub struct Piece {
     /// The first address, in bytes from the image's start.
     pub address: u32,

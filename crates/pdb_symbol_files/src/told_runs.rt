@@ -23,7 +23,7 @@ use std::alloc::{AllocError, Global};
 use std::io::ErrorKind;
 
 /// A run of addresses, with what is told of them.
-#[derive(Debug, Drop)]
+#[derive(Drop)]
 pub struct ToldRun {
     /// The answer that is told of each address, if there is one.
     pub told: Option<Told>,
