@@ -10,6 +10,7 @@ use Rattle.pdb_container.specs.Fault.{◌>>=◌}
 use Rattle.std.specs.Prelude.{Option, None, Some, Result, Ok, Err, IfErr, IfOk, OnErr, OnOk}
 use Rattle.std.specs.Io.KnownBytes.{Appends}
 use Rattle.std.proofs.KnownBytes.{Appends-nil}
+use Rattle.pdb_addresses.specs.Addresses.{Map}
 use Rattle.pdb_addresses.specs.declared.sections.ImageSectionHeader.{ImageSectionHeader}
 use Rattle.pdb_addr2line.specs.Identity.{identity_in}
 use Rattle.pdb_image.specs.Image.{Image}
@@ -36,7 +37,7 @@ use Rattle.pdb_symbols.specs.NamedLines.{named_lines, stored_lines}
 use Rattle.pdb_symbols.specs.UnwindingText.{text_of_image}
 use Rattle.pdb_symbols.specs.declared.fault.SymbolsFault.{SymbolsFault}
 use Rattle.pdb_symbols.specs.declared.fault.SymbolsFault.TheVariants as ends
-use Rattle.pdb_symbols.specs.Described.{IsDescribed, RefusesImage}
+use Rattle.pdb_symbols.specs.Described.{RefusesImage}
 use Rattle.pdb_symbols.specs.Ends.{FailsToWrite, IsFaultOfFile, IsReadFault}
 use Rattle.pdb_loading.specs.FileFaults.{OnLoadFault}
 use Rattle.pdb_loading.specs.declared.on_demand.FileFault.{FileFault}
@@ -47,6 +48,7 @@ use Rattle.pdb_symbols.specs.SymbolFile.{image_if, image_record, in_loading, sym
 use Rattle.pdb_symbols.specs.SymbolsText.{HasRecords, IsNamedInParts, IsNamedText}
 use Rattle.pdb_symbols.specs.Told.{told_named}
 use Rattle.pdb_symbols.proofs.NamedSteps.{stays_text}
+use Rattle.pdb_symbols_modules.specs.Dbi.{Dbi}
 use Rattle.pdb_symbols_modules.specs.Shared.{shared}
 use Rattle.pdb_symbols_modules.specs.Streams.{Streams, fault_in, streams}
 
@@ -78,67 +80,92 @@ loaded_in order file h is x =
 
 -- the symbol file of a database that was loaded
 pub made_ok : (asked : Asked) (bytes : Option (List ℕ)) (order : ContributionOrder)
-    (file : List ℕ) (h : Held) (i : PdbIdentity) (image : Option Image)
-    (first head functions : List ℕ) (sections : List ImageSectionHeader) → order ≡ Any
-    → IsLoadedWith order file h → identity_in (streams file) ≡ Ok i → image_if i bytes ≡ Ok image
-    → first ≡ first_records asked (h.debug_information).machine i image
-    → sections ≡ h.tables.map.image
+    (file : List ℕ) (h : Held) (i : PdbIdentity) (image : Option Image) (dbi : Dbi)
+    (inlines : Bool) (first head functions : List ℕ) (map : Map)
+    (sections : List ImageSectionHeader) → order ≡ Any
+    → IsLoadedWith order file h → identity_in (streams file) ≡ Ok i → dbi ≡ h.debug_information
+    → image_if i bytes ≡ Ok image → first ≡ first_records asked dbi.machine i image
+    → map ≡ h.tables.map → sections ≡ map.image → inlines ≡ asked.inlines
     → HasRecords head functions first (symbol_records
-    (answers_of_code sections (told_named asked.inlines 23 order (streams file))))
+    (answers_of_code sections (told_named inlines 23 order (streams file))))
     → (f : SymbolFile) × (symbol_file asked bytes (streams file) ≡ Ok f)
     × IsMade f head functions image
-made_ok asked bytes order file h i image first head functions sections is x named given begun held records =
+made_ok asked bytes order file h i image dbi inlines first head functions map sections is x named here given begun there held shown records =
     let s = streams file in
     let l = loaded_of order file h x in
     let begin = first_records asked (h.debug_information).machine i image in
-    let told : ContributionOrder → List ImageSectionHeader → List ℕ → Type 0
-    = λ (o : ContributionOrder) (headers : List ImageSectionHeader) (f : List ℕ).
+    let told : Bool → ContributionOrder → List ImageSectionHeader → List ℕ → Type 0
+    = λ (b : Bool) (o : ContributionOrder) (headers : List ImageSectionHeader) (f : List ℕ).
     HasRecords head functions f (symbol_records
-    (answers_of_code headers (told_named asked.inlines 23 o s))) in (
+    (answers_of_code headers (told_named b 23 o s))) in
+    let begins : first ≡ begin
+    = begun ∙ ap (λ (d : Dbi). first_records asked d.machine i image) here in
+    let all : sections ≡ h.tables.map.image = held ∙ ap (λ (m : Map). m.image) there in (
       file_of asked s l i image,
       made_of asked bytes s l i image (loaded_in order file h is x) named given,
       record {
-        records = subst (λ (o : ContributionOrder). told o h.tables.map.image begin) is
-            (subst (λ (hs : List ImageSectionHeader). told order hs begin) held
-            (subst (λ (f : List ℕ). told order sections f) begun records));
+        records = subst (λ (o : ContributionOrder). told asked.inlines o h.tables.map.image begin) is
+            (subst (λ (b : Bool). told b order h.tables.map.image begin) shown
+            (subst (λ (hs : List ImageSectionHeader). told inlines order hs begin) all
+            (subst (λ (f : List ℕ). told inlines order sections f) begins records)));
         unwinding = refl;
       },
     )
 
+-- the same of a database that is read on demand, whose bytes and flags are known
+pub made_on_demand : (asked : Asked) (bytes : Option (List ℕ)) (order : ContributionOrder)
+    (flags : ℕ) (contents file : List ℕ) (h : Held) (i : PdbIdentity) (image : Option Image)
+    (dbi : Dbi) (inlines : Bool) (first head functions : List ℕ) (map : Map)
+    (sections : List ImageSectionHeader) → order ≡ Any → flags ≡ 23 → contents ≡ file
+    → IsLoadedWith order contents h → identity_in (streams file) ≡ Ok i
+    → dbi ≡ h.debug_information → image_if i bytes ≡ Ok image
+    → first ≡ first_records asked dbi.machine i image → map ≡ h.tables.map
+    → sections ≡ map.image → inlines ≡ asked.inlines
+    → HasRecords head functions first (symbol_records
+    (answers_of_code sections (told_named inlines flags order (streams contents))))
+    → (f : SymbolFile) × (symbol_file asked bytes (streams file) ≡ Ok f)
+    × IsMade f head functions image
+made_on_demand asked bytes order flags contents file h i image dbi inlines first head functions map sections is all same x named here given begun there held shown records =
+    let told : ℕ → List ℕ → Type 0
+    = λ (n : ℕ) (x : List ℕ). HasRecords head functions first (symbol_records
+    (answers_of_code sections (told_named inlines n order (streams x)))) in
+    made_ok asked bytes order file h i image dbi inlines first head functions map sections is
+    (subst (λ (b : List ℕ). IsLoadedWith order b h) same x) named here given begun there held shown
+    (subst (λ (b : List ℕ). told 23 b) same (subst (λ (n : ℕ). told n contents) all records))
+
 -- ---- lookups
 
 -- those by what is held of a file are few
-pub few_lookups : (order : ContributionOrder) (file : List ℕ) (h : Held)
+pub few_lookups : (order : ContributionOrder) (file : List ℕ) (h : Held) (map : Map)
     (sections : List ImageSectionHeader) (before now lookups : ℕ) → order ≡ Any
-    → IsLoadedWith order file h → sections ≡ h.tables.map.image → before ≡ 0 → lookups ≡ now
+    → IsLoadedWith order file h → map ≡ h.tables.map → sections ≡ map.image → before ≡ 0
+    → lookups ≡ now
     → now ≤ before + 2 * pieces_of_code sections (begins_named 23 order (streams file))
     → AreFewLookups file lookups
 unfolding pieces_in
-few_lookups order file h sections before now lookups is x held none same few =
+few_lookups order file h map sections before now lookups is x there held none same few =
     let s = streams file in
+    let all : sections ≡ h.tables.map.image = held ∙ ap (λ (m : Map). m.image) there in
     let pieces : pieces_of_code sections (begins_named 23 order s) ≡ pieces_in s
-    = ap (λ (hs : List ImageSectionHeader). pieces_of_code hs (begins_named 23 order s)) held
+    = ap (λ (hs : List ImageSectionHeader). pieces_of_code hs (begins_named 23 order s)) all
     ∙ ap (λ (o : ContributionOrder). pieces_of_code h.tables.map.image (begins_named 23 o s)) is
     ∙ sym (ap (pieces_by s) (loaded_in order file h is x)) in
     omega (arith, pieces, none, same, few)
 
--- the same by what was described
-pub few_described : (asked : Asked) (bytes : Option (List ℕ)) (order : ContributionOrder)
-    (flags : ℕ) (contents file : List ℕ) (i : PdbIdentity) (image : Option Image)
-    (first : List ℕ) (headers sections : List ImageSectionHeader) (lookups : ℕ) → order ≡ Any
-    → flags ≡ 23 → contents ≡ file → headers ≡ sections
-    → IsDescribed asked bytes file first sections image i
-    → lookups ≤ 0 + 2 * pieces_of_code headers (begins_named flags order (streams contents))
+-- the same of a database that is read on demand, whose bytes and flags are known
+pub few_on_demand : (order : ContributionOrder) (flags : ℕ) (contents file : List ℕ) (h : Held)
+    (map : Map) (sections : List ImageSectionHeader) (before lookups : ℕ) → order ≡ Any
+    → flags ≡ 23 → contents ≡ file → IsLoadedWith order contents h → map ≡ h.tables.map
+    → sections ≡ map.image → before ≡ 0
+    → lookups ≤ before + 2 * pieces_of_code sections (begins_named flags order (streams contents))
     → AreFewLookups file lookups
-few_described asked bytes order flags contents file i image first headers sections lookups any shown same these d few =
-    let most : ℕ → ContributionOrder → List ℕ → Type 0
-    = λ (n : ℕ) (o : ContributionOrder) (x : List ℕ).
-    lookups ≤ 0 + 2 * pieces_of_code headers (begins_named n o (streams x)) in
-    few_lookups Any file d.held headers 0 lookups lookups refl d.loaded (these ∙ d.sections_are)
-    refl refl
-    (subst (λ (x : List ℕ). most 23 Any x) same
-    (subst (λ (o : ContributionOrder). most 23 o contents) any
-    (subst (λ (n : ℕ). most n order contents) shown few)))
+few_on_demand order flags contents file h map sections before lookups is all same x there held none few =
+    let most : ℕ → List ℕ → Type 0
+    = λ (n : ℕ) (b : List ℕ).
+    lookups ≤ before + 2 * pieces_of_code sections (begins_named n order (streams b)) in
+    few_lookups order file h map sections before lookups lookups is
+    (subst (λ (b : List ℕ). IsLoadedWith order b h) same x) there held none refl
+    (subst (λ (b : List ℕ). most 23 b) same (subst (λ (n : ℕ). most n contents) all few))
 
 -- ---- not made
 
@@ -456,26 +483,6 @@ pub unnamed_fails : (file : Result SymbolFile Refusal) (s : Streams) (cause : Fi
 unnamed_fails file s (files.Load fault) e none is failed =
     subst (λ (x : SymbolsFault). FailsToMake true file s x) (sym is) (inr (none, failed))
 unnamed_fails file s (files.File kind) e none is failed = read_fails file s e is
-
--- what was described makes a symbol file, with the records that are told
-pub described_ok : (asked : Asked) (bytes : Option (List ℕ)) (order : ContributionOrder)
-    (flags : ℕ) (contents file : List ℕ) (i : PdbIdentity) (image : Option Image)
-    (first head functions : List ℕ) (headers sections : List ImageSectionHeader) → order ≡ Any
-    → flags ≡ 23 → contents ≡ file → headers ≡ sections
-    → IsDescribed asked bytes file first sections image i
-    → HasRecords head functions first (symbol_records
-    (answers_of_code headers (told_named asked.inlines flags order (streams contents))))
-    → (f : SymbolFile) × (symbol_file asked bytes (streams file) ≡ Ok f)
-    × IsMade f head functions image
-described_ok asked bytes order flags contents file i image first head functions headers sections any shown same these d records =
-    let told : ℕ → ContributionOrder → List ℕ → Type 0
-    = λ (n : ℕ) (o : ContributionOrder) (x : List ℕ). HasRecords head functions first (symbol_records
-    (answers_of_code headers (told_named asked.inlines n o (streams x)))) in
-    made_ok asked bytes Any file d.held i image first head functions headers refl d.loaded d.named
-    d.given d.first_is (these ∙ d.sections_are)
-    (subst (λ (x : List ℕ). told 23 Any x) same
-    (subst (λ (o : ContributionOrder). told 23 o contents) any
-    (subst (λ (n : ℕ). told n order contents) shown records)))
 
 -- ---- an outcome that is known
 

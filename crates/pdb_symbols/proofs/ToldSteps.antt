@@ -3,7 +3,7 @@ use Rattle.std.proofs.Common.{◌≡◌, ℕ, ◌+◌, ◌-◌, ◌<◌, ◌≤�
 use Rattle.std.proofs.Common.{◌∙◌, ◌^◌, ◌||◌, inl, inr, min, subst, arith}
 use Rattle.std.proofs.lemmas.Bool.{cases_lt}
 use Rattle.std.proofs.Math.Bool.{or-true}
-use Rattle.std.specs.Prelude.{Option, None, Some, option_and_then, option_map, Result, Ok, Err}
+use Rattle.std.specs.Prelude.{Option, None, Some, option_and_then, option_map, Result, Ok, Err, IfOk, OnOk}
 use Rattle.pdb_addresses.specs.Addresses.{Map, inner_place}
 use Rattle.pdb_addresses.specs.PlaceRun.{breaks}
 use Rattle.pdb_addresses.specs.Places.{Place}
@@ -50,9 +50,10 @@ use Rattle.pdb_symbol_records.specs.Symbols.{symbols_from}
 use Rattle.pdb_symbols_modules.specs.DatabaseCalls.{debug_information, names}
 use Rattle.pdb_symbols_modules.specs.Shared.{Shared, shared}
 use Rattle.pdb_owners.specs.Counts.{is_bound_in}
-use Rattle.pdb_symbols.specs.Lookups.{begins_by, begins_if, begins_named, is_bound_for}
+use Rattle.pdb_symbols.specs.Lookups.{EndsAtBound, begins_by, begins_if, begins_named, is_bound_for}
 use Rattle.pdb_symbols.specs.Lookups.{is_bound_of, rise}
-use Rattle.pdb_symbols.specs.Told.{start_of, told_found, told_place}
+use Rattle.pdb_symbols.specs.Told.{TellsPlaces, start_of, told_found, told_place}
+use Rattle.pdb_symbol_files.specs.declared.told_runs.ToldRun.{ToldRun}
 
 -- ---- at a place
 
@@ -235,6 +236,23 @@ run_told inlines flags order s m address n count found place told is here some a
     (found_some (inner_place m address) found place here some)
     ∙ same (a - address) (omega arith)
 
+-- the same of a run that was returned
+pub if_told : {E : Type 0} (r : Result ToldRun E) (inlines : Bool) (flags : ℕ)
+    (order : ContributionOrder) (s : Streams) (m : Map) (address n : ℕ)
+    (found : Option PdbInternalSectionOffset) (place : PdbInternalSectionOffset)
+    → map_with order s ≡ Some m → found ≡ option_map internal_place (inner_place m address)
+    → found ≡ Some place
+    → ((k : ℕ) → k < n → inner_place m (address + k) ≡ place_on k (inner_place m address))
+    → IfOk r (λ run. run.count ≤ n)
+    → IfOk r (TellsPlaces (told_place inlines (database_named flags order s)
+    (frames_named flags order s)) (place_of place))
+    → IfOk r (λ run. (a : ℕ) → address ≤ a → a < address + run.count
+    → told_named inlines flags order s a ≡ run.told)
+if_told (Err e) inlines flags order s m address n found place is here some along few same = tt
+if_told (Ok run) inlines flags order s m address n found place is here some along few same =
+    run_told inlines flags order s m address n run.count found place run.told is here some along few
+    same
+
 -- what is known once more was read was known before
 pub known_before : (f h : FileAnswers) → h.contents ≡ f.contents → Grows f.views h.views
     → IsKnown h → IsKnown f
@@ -305,14 +323,16 @@ frames_run c d p limit n same run =
     subst (λ (x : Context (List KeptInfo)). IsOneRun (frames_in answered_in x) p limit n) same run
 
 -- by how much its count rose
-pub counted_by : (a b : Option (Context (List KeptInfo))) (c d : Context (List KeptInfo))
-    (old new count : ℕ) → a ≡ Some c → b ≡ Some d → count ≡ d.lookups - c.lookups
-    → new ≡ min (old + count) (2 ^ 64 - 1) → new ≡ min (old + rise a b) (2 ^ 64 - 1)
-counted_by a b c d old new count first last is sum =
+pub counted_by : {A E : Type 0} (r : Result A E) (a b : Option (Context (List KeptInfo)))
+    (c d : Context (List KeptInfo)) (old new : ℕ) → a ≡ Some c → b ≡ Some d
+    → OnOk r (new ≡ min (old + (d.lookups - c.lookups)) (2 ^ 64 - 1))
+    → OnOk r (new ≡ min (old + rise a b) (2 ^ 64 - 1))
+counted_by (Err e) a b c d old new first last sum = tt
+counted_by (Ok x) a b c d old new first last sum =
     let rose : rise a b ≡ d.lookups - c.lookups
     = ap (λ (o : Option (Context (List KeptInfo))). rise o b) first
     ∙ ap (λ (o : Option (Context (List KeptInfo))). rise (Some c) o) last in
-    omega (arith, rose, is, sum)
+    omega (arith, rose, sum)
 
 -- a piece begins at an address of a file that is loaded
 begins_with : (flags : ℕ) (order : ContributionOrder) (s : Streams) (m : Map) (a : ℕ)
@@ -365,6 +385,21 @@ run_ends flags order s m address end n count found place is here some along ends
           (subst (λ (k : ℕ). breaks m (address + k) ≡ true) same
           (ends (omega (arith, same, lt))))
     ]
+
+-- the same of a run that was returned
+pub if_ends : {E : Type 0} (r : Result ToldRun E) (flags : ℕ) (order : ContributionOrder)
+    (s : Streams) (m : Map) (address end n : ℕ) (found : Option PdbInternalSectionOffset)
+    (place : PdbInternalSectionOffset) → map_with order s ≡ Some m
+    → found ≡ option_map internal_place (inner_place m address) → found ≡ Some place
+    → ((k : ℕ) → k < n → inner_place m (address + k) ≡ place_on k (inner_place m address))
+    → (address + n < end → breaks m (address + n) ≡ true) → IfOk r (λ run. run.count ≤ n)
+    → IfOk r (EndsAtBound (is_bound_of (database_named flags order s)
+    (frames_named flags order s)) (place_of place) n)
+    → IfOk r (λ run. address + run.count < end
+    → begins_named flags order s (address + run.count) ≡ true)
+if_ends (Err e) flags order s m address end n found place is here some along ends few bound = tt
+if_ends (Ok run) flags order s m address end n found place is here some along ends few bound =
+    run_ends flags order s m address end n run.count found place is here some along ends few bound
 
 -- by a context of the file
 pub context_bound : (flags : ℕ) (order : ContributionOrder) (s : Streams)

@@ -1,7 +1,7 @@
 //! The description of a symbol file: the records that identify its database and image, and the
 //! image.
 
-ghost use Rattle.std.specs.Prelude.{◌≡◌, Ok, IfErr, IfOk, OnOk, option_copied, option_map, string_bytes};
+ghost use Rattle.std.specs.Prelude.{◌≡◌, Ok, IfErr, IfOk, OnOk, option_copied, string_bytes};
 ghost use Rattle.pdb_symbol_files.specs.Output.{IsAppended};
 ghost use Rattle.pdb_symbol_files.specs.Heads.{machine_name};
 ghost use Rattle.pdb_symbols.specs.Described.{RefusesImage, asked_of};
@@ -12,9 +12,7 @@ ghost use Rattle.pdb_symbols.specs.SymbolFile.{image_record, same_identity};
 use crate::fault::SymbolsFault;
 use crate::identity::identity_text;
 use crate::options::Options;
-use pdb_addr2line::Held;
 use pdb_addr2line::pdb::MachineType;
-use pdb_addresses::ImageSectionHeader;
 use pdb_image::{CodeView, Image, PdbIdentity};
 use pdb_symbol_files::{append_code_id, append_module};
 use pdb_symbols_modules::DebugInformation;
@@ -65,24 +63,11 @@ pub fn check_build(image: &Image<'_>, identity: &PdbIdentity) -> Result<(), Symb
     }
 }
 
-/// The image in bytes, which is of the build of a database's identity.
+/// The image in bytes, if they are given, which is of the build of a database's identity.
 ///
 /// # Errors
 /// `Image` where the bytes are no image; the errors of [`check_build`].
 #[tactic(auto, unfolding(crate::specs::SymbolFile::image_in))]
-fn parse_image<'b>(
-    identity: &PdbIdentity,
-    bytes: &'b [u8],
-) -> Result<Option<Image<'b>>, SymbolsFault>
-    ensures ok { IfOk result (λ image. image_in identity.now bytes.now ≡ Ok image) }
-    ensures refused { IfErr result (λ e. RefusesImage e (image_in identity.now bytes.now)) }
-{
-    let image = Image::parse(bytes)?;
-    check_build(&image, identity)?;
-    Ok(Some(image))
-}
-
-/// The image in bytes, if they are given, which is of the build of a database's identity.
 fn given_image<'b>(
     identity: &PdbIdentity,
     bytes: Option<&'b [u8]>,
@@ -92,34 +77,36 @@ fn given_image<'b>(
     ensures refused { IfErr result
         (λ e. RefusesImage e (image_if identity.now (option_copied bytes.entry))) }
 {
-    match bytes {
-        Some(bytes) => parse_image(identity, bytes),
-        None => Ok(None),
-    }
+    let Some(bytes) = bytes else {
+        return Ok(None);
+    };
+    let image = Image::parse(bytes)?;
+    check_build(&image, identity)?;
+    Ok(Some(image))
 }
 
 /// Appends the record of an image, if there is one.
 fn append_image(
     alloc: Global,
     image: Option<&Image<'_>>,
-    path: &Option<String>,
+    path: Option<&str>,
     output: &mut String,
 ) -> Result<(), AllocError>
     ensures { OnOk result (IsAppended output.old output.new
-        (image_record (option_copied image.entry) (option_map (λ p. string_bytes p) path.now))) }
+        (image_record (option_copied image.entry) (option_copied path.entry))) }
 {
     let (Some(image), Some(path)) = (image, path) else {
         return Ok(());
     };
     let (time_stamp, size) = (image.time_stamp(), image.size_of_image());
-    append_code_id(alloc, time_stamp, size, path.as_str(), output)
+    append_code_id(alloc, time_stamp, size, path, output)
 }
 
 /// The records that identify a symbol file's database and its image.
 #[tactic(auto, using(crate::proofs::HeadSteps::first_made))]
 fn first_of(
     alloc: Global,
-    options: &Options,
+    options: &Options<'_>,
     information: &DebugInformation<'_>,
     identity: &PdbIdentity,
     image: Option<&Image<'_>>,
@@ -129,50 +116,40 @@ fn first_of(
 {
     let mut first = String::new(alloc);
     let identity = identity_text(alloc, identity)?;
-    let (machine, path) = (machine_in(information), options.file.as_str());
+    let (machine, path) = (machine_in(information), options.file);
     append_module(alloc, machine, identity.as_str(), path, &mut first)?;
-    append_image(alloc, image, &options.image, &mut first)?;
+    append_image(alloc, image, options.image, &mut first)?;
     Ok(first)
 }
 
 /// The description of a symbol file.
-#[derive(Drop)]
 pub struct Described<'b> {
     /// The records that identify its database and its image.
     pub first: String,
-    /// The headers of the image's sections.
-    pub sections: Vec<ImageSectionHeader>,
     /// The image, if it is given.
     pub image: Option<Image<'b>>,
 }
 
-/// The description of the symbol file of a database, from what is held of it, its identity, and the
-/// bytes of its image, if they are given.
+/// The description of the symbol file of a database, from its debug information, its identity, and
+/// the bytes of its image, if they are given.
 ///
 /// # Errors
 /// The errors of the image, or out of memory.
 pub fn describe<'b>(
     alloc: Global,
-    options: &Options,
-    held: &Held,
+    options: &Options<'_>,
+    information: &DebugInformation<'_>,
     identity: &PdbIdentity,
     bytes: Option<&'b [u8]>,
 ) -> Result<Described<'b>, SymbolsFault>
     ensures image { IfOk result (λ d. image_if identity.now (option_copied bytes.entry)
         ≡ Ok d.image) }
     ensures first { IfOk result (λ d. string_bytes d.first ≡ first_records (asked_of options.now)
-        (held.now.debug_information).machine identity.now d.image) }
-    ensures sections { IfOk result (λ d. d.sections.items ≡ held.now.tables.map.image) }
+        information.now.machine identity.now d.image) }
     ensures refused { IfErr result
         (λ e. RefusesImage e (image_if identity.now (option_copied bytes.entry))) }
 {
     let image = given_image(identity, bytes)?;
-    let information = held.debug_information();
     let first = first_of(alloc, options, information, identity, image.as_ref())?;
-    let sections = held.address_map().image_section_headers().to_vec(alloc)?;
-    Ok(Described {
-        first,
-        sections,
-        image,
-    })
+    Ok(Described { first, image })
 }

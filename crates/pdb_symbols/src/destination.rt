@@ -68,29 +68,57 @@ fn folder_of(path: &str) -> &str {
     }
 }
 
+/// Makes the folder of a path, where a symbol file is to be.
+///
+/// # Errors
+/// `OutputIsRead` where the database or the image is at that path; `Write`, or out of memory.
+fn make_folder(rt: &impl Files, options: &Options<'_>, path: &str) -> Result<(), SymbolsFault>
+    ensures { IfErr result FailsToWrite }
+{
+    if is_read(rt, options, path)? {
+        return Err(SymbolsFault::OutputIsRead);
+    }
+    write_fault(fs::create_dir_all(rt, folder_of(path)))
+}
+
 /// The path of the symbol file of a database with an identity in a store, in a folder that is
 /// there.
 ///
 /// # Errors
-/// `OutputIsRead` where the database or the image is at that path; `Write`, or out of memory.
+/// The errors of [`make_folder`].
 fn path_in_store<S: Files + AllocGlobal>(
     rt: &S,
-    options: &Options,
+    options: &Options<'_>,
     store: &str,
     identity: &PdbIdentity,
 ) -> Result<String, SymbolsFault>
     ensures { IfErr result FailsToWrite }
 {
-    let path = store_path(rt.alloc(), store, options.file.as_str(), identity)?;
-    if is_read(rt, options, path.as_str())? {
-        return Err(SymbolsFault::OutputIsRead);
-    }
-    write_fault(fs::create_dir_all(rt, folder_of(path.as_str())))?;
+    let path = store_path(rt.alloc(), store, options.file, identity)?;
+    make_folder(rt, options, path.as_str())?;
     Ok(path)
 }
 
+/// The path of the symbol file that is asked for, of a database with an identity; `None` for
+/// standard output.
+///
+/// # Errors
+/// The errors of [`path_in_store`].
+fn path_asked<S: Files + AllocGlobal>(
+    rt: &S,
+    options: &Options<'_>,
+    identity: &PdbIdentity,
+) -> Result<Option<String>, SymbolsFault>
+    ensures { IfErr result FailsToWrite }
+{
+    match options.target {
+        Target::Output => Ok(None),
+        Target::File(path) => Ok(Some(String::from_str(rt.alloc(), path)?)),
+        Target::Store(store) => Ok(Some(path_in_store(rt, options, store, identity)?)),
+    }
+}
+
 /// The place where a symbol file is written: an output, or a file.
-#[derive(Drop)]
 struct Place<F: Drop, W: Drop> {
     output: W,
     /// The file, once it was opened.
@@ -117,15 +145,12 @@ impl<S: Files + AllocGlobal, W: Write + Drop> Destination<S> for Place<S::File, 
     fn open(
         &mut self,
         rt: &S,
-        options: &Options,
+        options: &Options<'_>,
         identity: &PdbIdentity,
     ) -> Result<(), SymbolsFault> {
-        let path = match &options.target {
-            Target::Output => return Ok(()),
-            Target::File(path) => path.clone()?,
-            Target::Store(store) => path_in_store(rt, options, store.as_str(), identity)?,
-        };
-        self.opened = Some(open_output(rt, path)?);
+        if let Some(path) = path_asked(rt, options, identity)? {
+            self.opened = Some(open_output(rt, path)?);
+        }
         Ok(())
     }
 }
@@ -139,33 +164,61 @@ fn read_bytes(alloc: Global, file: &mut impl Read) -> Result<Vec<u8>, SymbolsFau
     }
 }
 
-/// The bytes of the image's file, if it is given.
-fn image_bytes<S: Files + AllocGlobal>(
-    rt: &S,
-    options: &Options,
-) -> Result<Option<Vec<u8>>, SymbolsFault> {
-    match &options.image {
-        Some(path) => Ok(Some(read_image(rt, path.as_str())?)),
-        None => Ok(None),
+/// Opens the database's file.
+fn open_file<S: Files + AllocGlobal>(rt: &S, path: &str) -> Result<S::File, SymbolsFault> {
+    match fs::open(rt, path) {
+        Ok(file) => Ok(file),
+        Err(error) if error.kind() == ErrorKind::OutOfMemory => Err(SymbolsFault::out_of_memory()),
+        Err(_) => Err(SymbolsFault::ReadFile),
     }
 }
 
-/// Writes a symbol file by a database's file of `size` bytes, which is read on demand. The process
-/// is left to give its memory back.
-fn write_by_views<S: Files + AllocGlobal, F: FileExt + Drop, W: Destination<S>, E: Write + Drop>(
-    rt: &S,
-    options: &Options,
+/// A file that can be read at any place.
+#[derive(Drop)]
+struct SizedFile<F: Drop> {
     file: F,
+    /// The number of its bytes.
     size: u64,
+}
+
+/// A database's file, which can be read.
+#[derive(Drop)]
+enum Database<F: Drop> {
+    /// A regular file, which is read on demand.
+    File(SizedFile<F>),
+    /// The bytes of any other file, which was read from its beginning on.
+    Bytes(Vec<u8>),
+}
+
+/// Opens the database's file, and reads it if it isn't a regular one.
+fn open_database<S: Files + AllocGlobal>(
+    rt: &S,
+    path: &str,
+) -> Result<Database<S::File>, SymbolsFault>
+where
+    S::File: FileExt,
+{
+    let mut file = open_file(rt, path)?;
+    let Some(size) = size_of(&file) else {
+        return Ok(Database::Bytes(read_bytes(rt.alloc(), &mut file)?));
+    };
+    match reach(&file, size) {
+        Ok(size) => Ok(Database::File(SizedFile { file, size })),
+        Err(error) => Err(SymbolsFault::of_file(&error)),
+    }
+}
+
+/// Writes a symbol file by a database's file, which is read on demand. The process is left to give
+/// its memory back.
+fn write_by_views<S: AllocGlobal, F: FileExt + Drop, W: Destination<S>, E: Write + Drop>(
+    rt: &S,
+    options: &Options<'_>,
+    file: SizedFile<F>,
+    image: Option<&[u8]>,
     output: &mut W,
     progress: Progress<E>,
 ) -> Result<(), SymbolsFault> {
-    let size = match reach(&file, size) {
-        Ok(size) => size,
-        Err(error) => return Err(SymbolsFault::of_file(&error)),
-    };
-    let image = image_bytes(rt, options)?;
-    let image = image.as_ref().map(|bytes: &Vec<u8>| bytes.as_slice());
+    let SizedFile { file, size } = file;
     let arena = Bump::new(rt.alloc());
     let mut source = FileOnDemand::new(rt.alloc(), &arena, file, size)?;
     source.order = ContributionOrder::Any;
@@ -177,34 +230,23 @@ fn write_by_views<S: Files + AllocGlobal, F: FileExt + Drop, W: Destination<S>, 
     outcome
 }
 
-/// Opens the database's file.
-fn open_file<S: Files + AllocGlobal>(rt: &S, path: &str) -> Result<S::File, SymbolsFault> {
-    match fs::open(rt, path) {
-        Ok(file) => Ok(file),
-        Err(error) if error.kind() == ErrorKind::OutOfMemory => Err(SymbolsFault::out_of_memory()),
-        Err(_) => Err(SymbolsFault::ReadFile),
-    }
-}
-
-/// Writes the symbol file that is asked for, by its database's file: a regular one is read on
-/// demand, any other from its beginning on.
+/// Writes the symbol file that is asked for, by its database's file and its image's.
 fn write_by_file<S: Files + AllocGlobal, W: Destination<S>, E: Write + Drop>(
     rt: &S,
-    options: &Options,
+    options: &Options<'_>,
     output: &mut W,
     progress: Progress<E>,
 ) -> Result<(), SymbolsFault>
 where
     S::File: FileExt,
 {
-    let mut file = open_file(rt, options.file.as_str())?;
-    if let Some(size) = size_of(&file) {
-        return write_by_views(rt, options, file, size, output, progress);
+    let database = open_database(rt, options.file)?;
+    let image = read_image(rt, options.image)?;
+    let image = image.as_deref();
+    match database {
+        Database::File(file) => write_by_views(rt, options, file, image, output, progress),
+        Database::Bytes(bytes) => write_in_memory(rt, options, bytes, image, output, progress),
     }
-    let bytes = read_bytes(rt.alloc(), &mut file)?;
-    let image = image_bytes(rt, options)?;
-    let image = image.as_ref().map(|bytes: &Vec<u8>| bytes.as_slice());
-    write_in_memory(rt, options, bytes, image, output, progress)
 }
 
 /// Writes the symbol file that is asked for to where it is asked for, or to `output`.
@@ -213,7 +255,7 @@ where
 /// Why it isn't written.
 pub fn write_symbols<S: Files + AllocGlobal, W: Write + Drop, E: Write + Drop>(
     rt: &S,
-    options: &Options,
+    options: &Options<'_>,
     output: W,
     progress: Progress<E>,
 ) -> Result<(), SymbolsFault>

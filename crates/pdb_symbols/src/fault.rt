@@ -36,32 +36,54 @@ pub enum SymbolsFault {
     OutputIsRead,
 }
 
-/// Writes a fault's name with the name of a kind in parentheses.
-fn write_kind<W: fmt::Write>(
+/// Writes a fault's name and, if it has a kind, the kind's name in parentheses.
+fn write_name<W: fmt::Write>(
     f: &mut fmt::Formatter<W>,
     name: &str,
-    kind: ErrorKind,
+    kind: Option<ErrorKind>,
 ) -> fmt::Result {
-    write!(f, "{name}({})", kind_name(kind))
+    match kind {
+        Some(kind) => write!(f, "{name}({})", kind_name(kind)),
+        None => f.write_str(name),
+    }
 }
 
 impl fmt::Display for SymbolsFault {
     fn fmt<W: fmt::Write>(&self, f: &mut fmt::Formatter<W>) -> fmt::Result {
         match self {
             SymbolsFault::Load(fault) => fault.fmt(f),
-            SymbolsFault::File(kind) => write_kind(f, "File", *kind),
-            SymbolsFault::ReadFile => f.write_str("ReadFile"),
-            SymbolsFault::ImageFile(kind) => write_kind(f, "ImageFile", *kind),
             SymbolsFault::Image(error) => write!(f, "Image({error:?})"),
-            SymbolsFault::ImageNamesNoPdb => f.write_str("ImageNamesNoPdb"),
-            SymbolsFault::OtherBuild => f.write_str("OtherBuild"),
-            SymbolsFault::Write(kind) => write_kind(f, "Write", *kind),
-            SymbolsFault::OutputIsRead => f.write_str("OutputIsRead"),
+            fault => write_name(f, fault.name(), fault.kind()),
         }
     }
 }
 
 impl SymbolsFault {
+    /// The name of the kind of fault.
+    fn name(&self) -> &'static str {
+        match self {
+            SymbolsFault::Load(_) => "Load",
+            SymbolsFault::File(_) => "File",
+            SymbolsFault::ReadFile => "ReadFile",
+            SymbolsFault::ImageFile(_) => "ImageFile",
+            SymbolsFault::Image(_) => "Image",
+            SymbolsFault::ImageNamesNoPdb => "ImageNamesNoPdb",
+            SymbolsFault::OtherBuild => "OtherBuild",
+            SymbolsFault::Write(_) => "Write",
+            SymbolsFault::OutputIsRead => "OutputIsRead",
+        }
+    }
+
+    /// The kind of error with which reading or writing a file failed, if that is the fault.
+    fn kind(&self) -> Option<ErrorKind> {
+        match self {
+            SymbolsFault::File(kind) => Some(*kind),
+            SymbolsFault::ImageFile(kind) => Some(*kind),
+            SymbolsFault::Write(kind) => Some(*kind),
+            _ => None,
+        }
+    }
+
     /// Out of memory.
     pub fn out_of_memory() -> SymbolsFault
         ensures { result ≡ ends.Load load_faults.OutOfMemory }

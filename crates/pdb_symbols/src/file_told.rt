@@ -1,26 +1,19 @@
 //! The addresses of a file that is read on demand, with what is told of them.
 
-ghost use Rattle.std.specs.Prelude.{◌≡◌, ◌+◌, ◌-◌, ◌*◌, ◌^◌, ◌≤◌, IfErr, IfOk, IfSome, OnErr, OnOk};
-ghost use Rattle.std.specs.Prelude.{min, string_bytes};
-ghost use Rattle.pdb_addr2line.specs.FileAnswers.{IsKnown};
+ghost use Rattle.std.specs.Prelude.{◌≡◌, ◌+◌, ◌-◌, ◌^◌, ◌≤◌, IfOk, IfSome, OnErr, OnOk, min};
+ghost use Rattle.pdb_addr2line.specs.FileAnswers.{IsKnown, with_context};
 ghost use Rattle.pdb_file_views.specs.Views.{Grows};
 ghost use Rattle.pdb_owners.specs.Databases.{place_of};
-ghost use Rattle.pdb_symbol_files.specs.Code.{pieces_of_code};
 ghost use Rattle.pdb_symbol_files.specs.PlainAnswers.{IsPlainTold};
-ghost use Rattle.pdb_symbols.specs.Ends.{IsReadFault};
-ghost use Rattle.pdb_symbols.specs.Lookups.{EndsAtBound, begins_of, is_bound_by, rise};
-ghost use Rattle.pdb_symbols.specs.SymbolsText.{TellsCode};
-ghost use Rattle.pdb_symbols.specs.Told.{TellsPlaces, told_by, told_named, told_place_by};
+ghost use Rattle.pdb_symbols.specs.Lookups.{EndsAtBound, is_bound_by, rise};
+ghost use Rattle.pdb_symbols.specs.Told.{TellsPlaces, told_place_by};
 
-use crate::fault::SymbolsFault;
-use crate::progress::Progress;
 use crate::told_places::told_at_place;
-use crate::writing::{FileText, text_of};
 use pdb_addr2line::{Error, FileSymbolizer, TRIES};
-use pdb_addresses::{ImageSectionHeader, PdbInternalSectionOffset, Rva};
+use pdb_addresses::{PdbInternalSectionOffset, Rva};
 use pdb_symbol_files::{ToldFault, ToldRun, ToldRuns};
 use std::alloc::Global;
-use std::io::{ErrorKind, Write};
+use std::io::ErrorKind;
 use std::os::unix::fs::FileExt;
 
 /// The fault of a failed read; out of memory has one name.
@@ -45,17 +38,13 @@ fn told_held<F: Drop>(
     limit: u32,
 ) -> Result<ToldRun, Error>
     requires { 1 ≤ limit }
-    ensures contents { symbolizer.new.contents ≡ symbolizer.old.contents }
-    ensures order { symbolizer.new.order ≡ symbolizer.old.order }
-    ensures flags { symbolizer.new.flags ≡ symbolizer.old.flags }
-    ensures held { symbolizer.new.held ≡ symbolizer.old.held }
-    ensures views { symbolizer.new.views ≡ symbolizer.old.views }
+    ensures kept { symbolizer.new ≡ with_context symbolizer.old symbolizer.new.context }
     ensures some { IfOk result (λ run. 1 ≤ run.count) }
     ensures within { IfOk result (λ run. run.count ≤ limit) }
-    ensures told { IsKnown symbolizer.new
+    ensures told { IsKnown symbolizer.old
         → IfOk result (TellsPlaces (told_place_by inlines symbolizer.old) (place_of place)) }
     ensures plain { IfOk result (λ run. IfSome run.told IsPlainTold) }
-    ensures ends { IsKnown symbolizer.new
+    ensures ends { IsKnown symbolizer.old
         → IfOk result (EndsAtBound (is_bound_by symbolizer.old) (place_of place) limit) }
     ensures counted { OnOk result (lookups.new ≡ min
         (lookups.old + rise symbolizer.old.context symbolizer.new.context) (2 ^ 64 - 1)) }
@@ -65,13 +54,9 @@ fn told_held<F: Drop>(
     let Some(mut context) = symbolizer.take_context() else {
         return Err(Error::OutOfMemory);
     };
-    let before = context.lookups();
-    let run = told_at_place(alloc, &mut context, inlines, place, limit);
-    let after = context.lookups();
+    let run = told_at_place(alloc, &mut context, lookups, inlines, place, limit);
     symbolizer.put_context(context);
-    let run = run?;
-    *lookups = lookups.saturating_add(after.saturating_sub(before));
-    Ok(run)
+    run
 }
 
 /// Returns what is told of a place, and the number of places from there on of which it is told.
@@ -118,20 +103,17 @@ fn told_read<F: FileExt + Drop>(
 }
 
 /// A value that tells of the addresses of a file that is read on demand.
-#[derive(Drop)]
-pub struct FileTold<'a, F: Drop, E> {
+pub struct FileTold<'a, F: Drop> {
     /// The file.
     pub symbolizer: FileSymbolizer<'a, F>,
     /// Whether inlined calls are told.
     pub inlines: bool,
-    /// The progress of the work.
-    pub progress: Progress<E>,
     /// The number of the context's lookups of places, for what was told: where something was
     /// missing, lookups before it was read aren't counted. At `u64::MAX` the count stays.
     pub lookups: u64,
 }
 
-impl<'a, F: FileExt + Drop, E: Write + Drop> ToldRuns for FileTold<'a, F, E> {
+impl<'a, F: FileExt + Drop> ToldRuns for FileTold<'a, F> {
     ghost use Rattle.pdb_addr2line.specs.FileAnswers.{IsKnown};
     ghost use Rattle.pdb_symbols.specs.Lookups.{begins_of};
     ghost use Rattle.pdb_symbols.specs.Told.{told_named};
@@ -148,54 +130,19 @@ impl<'a, F: FileExt + Drop, E: Write + Drop> ToldRuns for FileTold<'a, F, E> {
 
     ghost lookups = { λ t. t.lookups };
 
-    fn prepare(&mut self, addresses: u64) {
+    fn prepare(&mut self, _addresses: u64) {
         self.symbolizer.ask_all();
-        self.progress.begin(addresses);
     }
 
     fn told_run(&mut self, alloc: Global, address: u32, end: u32) -> Result<ToldRun, ToldFault> {
         let map = self.symbolizer.address_map();
         let (place, count) = map.place_run(Rva(address), Rva(end));
-        let inlines = self.inlines;
-        let run = match place {
-            Some(place) => told_read(
-                alloc,
-                &mut self.symbolizer,
-                &mut self.lookups,
-                inlines,
-                place,
-                count,
-            )?,
-            None => ToldRun { told: None, count },
+        let place = match place {
+            None => return Ok(ToldRun { told: None, count }),
+            Some(place) => place,
         };
-        self.progress.advance(run.count);
-        Ok(run)
-    }
-}
-
-/// The text of the records of the functions of a file that is read on demand, behind a head: the
-/// records of its frames at the addresses at which code may run, where the bytes that the file is
-/// taken to have agree with all that was read. The count of lookups rises by at most two for each
-/// piece of these addresses.
-///
-/// # Errors
-/// `File` where the file couldn't be read; or out of memory.
-pub fn text_on_demand<F: FileExt + Drop, E: Write + Drop>(
-    alloc: Global,
-    head: String,
-    sections: &[ImageSectionHeader],
-    runs: &mut FileTold<'_, F, E>,
-) -> Result<FileText, SymbolsFault>
-    ensures grows { IsKnown runs.new.symbolizer → IsKnown runs.old.symbolizer }
-    ensures contents { runs.new.symbolizer.contents ≡ runs.old.symbolizer.contents }
-    ensures fails { IfErr result IsReadFault }
-    ensures records { IsKnown runs.new.symbolizer → IfOk result (TellsCode (string_bytes head)
-        sections.now (told_by runs.old.inlines runs.old.symbolizer)) }
-    ensures lookups { IsKnown runs.new.symbolizer → OnOk result (runs.new.lookups
-        ≤ runs.old.lookups + 2 * pieces_of_code sections.now (begins_of runs.old.symbolizer)) }
-{
-    match text_of(alloc, head, sections, runs) {
-        Ok(text) => Ok(text),
-        Err(fault) => Err(SymbolsFault::from(fault)),
+        let inlines = self.inlines;
+        let (symbolizer, lookups) = (&mut self.symbolizer, &mut self.lookups);
+        told_read(alloc, symbolizer, lookups, inlines, place, count)
     }
 }

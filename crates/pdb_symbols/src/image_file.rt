@@ -12,13 +12,19 @@ fn read_bytes(rt: &(impl Files + AllocGlobal), path: &str) -> io::Result<Vec<u8>
     read_image_from(rt.alloc(), &mut file)
 }
 
-/// Reads an image's file, as far as its headers and its sections' data reach.
+/// Reads an image's file, if one is named, as far as its headers and its sections' data reach.
 ///
 /// # Errors
 /// `ImageFile` where it can't be read, or out of memory.
-pub fn read_image(rt: &(impl Files + AllocGlobal), path: &str) -> Result<Vec<u8>, SymbolsFault> {
+pub fn read_image(
+    rt: &(impl Files + AllocGlobal),
+    path: Option<&str>,
+) -> Result<Option<Vec<u8>>, SymbolsFault> {
+    let Some(path) = path else {
+        return Ok(None);
+    };
     match read_bytes(rt, path) {
-        Ok(bytes) => Ok(bytes),
+        Ok(bytes) => Ok(Some(bytes)),
         Err(error) if error.kind() == ErrorKind::OutOfMemory => Err(SymbolsFault::out_of_memory()),
         Err(error) => Err(SymbolsFault::ImageFile(error.kind())),
     }

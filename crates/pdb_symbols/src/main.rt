@@ -18,6 +18,7 @@ mod options;
 mod output_file;
 mod progress;
 mod renaming;
+mod shown;
 mod told_places;
 mod undecorated;
 mod words;
@@ -46,19 +47,18 @@ fn main(rt: HostRuntime) -> ExitCode {
 /// Does what the words ask for, and returns the exit status.
 fn answer_words(rt: &HostRuntime, words: &[String]) -> ExitCode {
     let mut errors = rt.stderr();
-    match read_options(rt.alloc(), words) {
-        Ok(Words::Options(options)) => run(rt, &options),
-        Ok(Words::Wrong(error)) => refuse(&mut errors, error.as_str()),
-        Ok(Words::NoFile) => refuse(&mut errors, "the argument <FILE> is required"),
-        Ok(Words::Help) => tell(&mut rt.stdout(), &mut errors, HELP),
-        Ok(Words::Version) => tell(&mut rt.stdout(), &mut errors, VERSION),
-        Err(_) => report(&mut errors, &SymbolsFault::out_of_memory()),
+    match read_options(words) {
+        Words::Options(options) => run(rt, &options),
+        Words::Wrong(what, word) => refuse_word(&mut errors, what, word),
+        Words::NoFile => refuse(&mut errors, "the argument <FILE> is required"),
+        Words::Help => tell(&mut rt.stdout(), &mut errors, HELP),
+        Words::Version => tell(&mut rt.stdout(), &mut errors, VERSION),
     }
 }
 
 /// Writes the symbol file, and reports how that ended. Neither the database nor the image is
 /// written over.
-fn run(rt: &HostRuntime, options: &Options) -> ExitCode {
+fn run(rt: &HostRuntime, options: &Options<'_>) -> ExitCode {
     let mut errors = rt.stderr();
     match is_output_read(rt, options) {
         Ok(false) => {}
@@ -73,14 +73,14 @@ fn run(rt: &HostRuntime, options: &Options) -> ExitCode {
     if shows {
         let _ = errors.write_all(ERASED);
     }
-    match fault {
+    match &fault {
         SymbolsFault::OutputIsRead => {
             refuse(
                 &mut errors,
                 "'--store' would write over a file that is read",
             )
         }
-        fault => report(&mut errors, &fault),
+        fault => report(&mut errors, fault),
     }
 }
 
@@ -88,6 +88,15 @@ fn run(rt: &HostRuntime, options: &Options) -> ExitCode {
 fn report(errors: &mut impl Write, fault: &SymbolsFault) -> ExitCode {
     let _ = write!(errors, "fault: {fault}\n");
     ExitCode::from(1)
+}
+
+/// Reports what is wrong with a word, with status 2; a write that fails is ignored.
+fn refuse_word(errors: &mut impl Write, what: &str, word: &str) -> ExitCode {
+    let _ = write!(
+        errors,
+        "error: {what} '{word}'\n\nFor more information, try '--help'.\n"
+    );
+    ExitCode::from(2)
 }
 
 /// Reports what is wrong with the words, with status 2; a write that fails is ignored.

@@ -12,10 +12,11 @@ ghost use Rattle.pdb_symbols_modules.specs.Streams.{streams};
 
 use crate::describing::{Described, describe};
 use crate::fault::SymbolsFault;
-use crate::memory_told::{MemoryTold, text_in_memory};
+use crate::memory_told::MemoryTold;
 use crate::options::Options;
 use crate::progress::Progress;
-use crate::writing::{FileText, write_symbols_text};
+use crate::shown::Shown;
+use crate::writing::{FileText, text_of, write_symbols_text};
 use pdb_addr2line::{ContributionOrder, Symbolizer};
 use pdb_image::{Image, PdbIdentity};
 use std::alloc::Global;
@@ -31,7 +32,7 @@ pub trait Destination<S>: Write {
     fn open(
         &mut self,
         rt: &S,
-        options: &Options,
+        options: &Options<'_>,
         identity: &PdbIdentity,
     ) -> Result<(), SymbolsFault>
         ensures same { Self.contents self.new ≡ Self.contents self.old }
@@ -52,13 +53,51 @@ pub struct Made<'b> {
 }
 
 /// Makes the symbol file of a database that was loaded, and of the bytes of its image, if they are
-/// given.
+/// given, from a value that tells of its addresses.
 ///
 /// # Errors
 /// The errors of the information stream, of the image, or out of memory.
 fn made_by<'b, E: Write + Drop>(
     alloc: Global,
-    options: &Options,
+    options: &Options<'_>,
+    runs: &mut Shown<MemoryTold<'_>, E>,
+    image: Option<&'b [u8]>,
+) -> Result<Made<'b>, SymbolsFault>
+    requires order { runs.old.told.symbolizer.now.order ≡ Any }
+    requires inlines { runs.old.told.inlines ≡ options.now.inlines }
+    requires unasked { runs.old.told.context.lookups ≡ 0 }
+    ensures ok { IfOk result (λ m. Makes options.now (option_copied image.entry)
+        runs.old.told.symbolizer.now.bytes m.text m.image) }
+    ensures lookups { IfOk result
+        (λ m. AreFewLookups runs.old.told.symbolizer.now.bytes m.lookups) }
+    ensures failed { IfErr result (FailsMaking false options.now (option_copied image.entry)
+        runs.old.told.symbolizer.now.bytes) }
+{
+    let symbolizer = runs.told.symbolizer;
+    let held = symbolizer.held();
+    let identity = symbolizer.identity(alloc)?;
+    let information = held.debug_information();
+    let Described { first, image } = describe(alloc, options, information, &identity, image)?;
+    let sections = held.address_map().image_section_headers();
+    let Ok(text) = text_of(alloc, first, sections, runs) else {
+        return Err(SymbolsFault::out_of_memory());
+    };
+    Ok(Made {
+        text,
+        image,
+        identity,
+        lookups: runs.told.context.lookups(),
+    })
+}
+
+/// Makes the symbol file of a database that was loaded, and of the bytes of its image, if they are
+/// given.
+///
+/// # Errors
+/// As [`made_by`].
+fn made_of_loaded<'b, E: Write + Drop>(
+    alloc: Global,
+    options: &Options<'_>,
     symbolizer: &Symbolizer,
     image: Option<&'b [u8]>,
     progress: Progress<E>,
@@ -70,29 +109,14 @@ fn made_by<'b, E: Write + Drop>(
     ensures failed { IfErr result
         (FailsMaking false options.now (option_copied image.entry) symbolizer.now.bytes) }
 {
-    let held = symbolizer.held();
-    let identity = symbolizer.identity(alloc)?;
-    let described = describe(alloc, options, held, &identity, image)?;
     let context = symbolizer.context(alloc)?;
-    let mut runs = MemoryTold {
+    let told = MemoryTold {
         symbolizer,
         context,
         inlines: options.inlines,
-        progress,
     };
-    let Described {
-        first,
-        sections,
-        image,
-    } = described;
-    let text = text_in_memory(alloc, first, sections.as_slice(), &mut runs)?;
-    let lookups = runs.context.lookups();
-    Ok(Made {
-        text,
-        image,
-        identity,
-        lookups,
-    })
+    let mut runs = Shown { told, progress };
+    made_by(alloc, options, &mut runs, image)
 }
 
 /// Makes the symbol file of a database from the bytes of its file and, if they are given, the bytes
@@ -102,7 +126,7 @@ fn made_by<'b, E: Write + Drop>(
 /// The first fault of loading; the information stream's; the image's; out of memory.
 fn made_in_memory<'b, E: Write + Drop>(
     alloc: Global,
-    options: &Options,
+    options: &Options<'_>,
     bytes: Vec<u8>,
     image: Option<&'b [u8]>,
     progress: Progress<E>,
@@ -114,7 +138,7 @@ fn made_in_memory<'b, E: Write + Drop>(
         (FailsMaking false options.now (option_copied image.entry) bytes.items) }
 {
     let symbolizer = Symbolizer::open_with_order(alloc, bytes, ContributionOrder::Any)?;
-    made_by(alloc, options, &symbolizer, image, progress)
+    made_of_loaded(alloc, options, &symbolizer, image, progress)
 }
 
 /// Writes a symbol file that was made.
@@ -123,7 +147,7 @@ fn made_in_memory<'b, E: Write + Drop>(
 /// `Write`, or out of memory; a prefix of it was written.
 pub fn write_made<S: AllocGlobal, W: Destination<S>>(
     rt: &S,
-    options: &Options,
+    options: &Options<'_>,
     made: &Made<'_>,
     output: &mut W,
 ) -> Result<(), SymbolsFault>
@@ -146,7 +170,7 @@ pub fn write_made<S: AllocGlobal, W: Destination<S>>(
 /// The first fault of loading; the information stream's; the image's; `Write`; out of memory.
 pub fn write_in_memory<S: AllocGlobal, W: Destination<S>, E: Write + Drop>(
     rt: &S,
-    options: &Options,
+    options: &Options<'_>,
     bytes: Vec<u8>,
     image: Option<&[u8]>,
     output: &mut W,
@@ -157,6 +181,8 @@ pub fn write_in_memory<S: AllocGlobal, W: Destination<S>, E: Write + Drop>(
     ensures says { OnOk result (WritesTold options.now.demangle options.now.inlines
         (streams bytes.items) (W.contents output.old) (W.contents output.new)) }
 {
-    let made = made_in_memory(rt.alloc(), options, bytes, image, progress)?;
-    write_made(rt, options, &made, output)
+    match made_in_memory(rt.alloc(), options, bytes, image, progress) {
+        Ok(made) => write_made(rt, options, &made, output),
+        Err(fault) => Err(fault),
+    }
 }

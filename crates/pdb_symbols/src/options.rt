@@ -1,64 +1,58 @@
 //! The request that the program's words make.
 
-use std::alloc::{AllocError, Global};
-
 /// The place where a symbol file is written.
-#[derive(Drop)]
-pub enum Target {
+#[derive(Clone, Copy)]
+pub enum Target<'w> {
     /// To standard output.
     Output,
     /// To the file at a path.
-    File(String),
+    File(&'w str),
     /// To its place in the symbol store in a folder.
-    Store(String),
+    Store(&'w str),
 }
 
 /// The symbol file that is asked for.
-#[derive(Drop)]
-pub struct Options {
+#[derive(Clone, Copy)]
+pub struct Options<'w> {
     /// The program database.
-    pub file: String,
+    pub file: &'w str,
     /// Its image, if it is given.
-    pub image: Option<String>,
+    pub image: Option<&'w str>,
     /// Whether inlined calls are written.
     pub inlines: bool,
     /// Whether names are undecorated.
     pub demangle: bool,
     /// Where the symbol file is written.
-    pub target: Target,
+    pub target: Target<'w>,
 }
 
 /// The request that words make.
-#[derive(Drop)]
-pub enum Words {
+#[derive(Clone, Copy)]
+pub enum Words<'w> {
     /// The help is asked for.
     Help,
     /// The version is asked for.
     Version,
-    /// The words are wrong, with this error.
-    Wrong(String),
+    /// The words are wrong: what is wrong, and the word or the option of which it is.
+    Wrong(&'static str, &'w str),
     /// No database is named.
     NoFile,
     /// A symbol file is asked for.
-    Options(Options),
+    Options(Options<'w>),
 }
 
 /// The choices that were read of the words.
-#[derive(Drop)]
-struct Choices {
-    file: Option<String>,
-    image: Option<String>,
+#[derive(Clone, Copy)]
+struct Choices<'w> {
+    file: Option<&'w str>,
+    image: Option<&'w str>,
     inlines: bool,
     demangle: bool,
-    target: Target,
-    /// Whether the help is asked for.
-    help: bool,
-    /// Whether the version is asked for.
-    version: bool,
-    /// The error of the words, if there is one.
-    error: Option<String>,
+    target: Target<'w>,
     /// Whether a word after `--` was read.
     plain: bool,
+    /// The request that the words make whatever follows, if one was read.
+    ended: Option<Words<'w>>,
 }
 
 /// A kind of word.
@@ -98,152 +92,120 @@ fn with_value(word: &str) -> (&str, Option<&str>) {
     }
 }
 
-impl Choices {
-    /// Whether the words after those that were read count for nothing.
-    fn has_ended(&self) -> bool {
-        self.help || self.version || self.error.is_some()
-    }
-
+impl<'w> Choices<'w> {
     /// Ends the words with an error.
-    fn refuse(&mut self, alloc: Global, what: &str, word: &str) -> Result<(), AllocError> {
-        self.error = Some(format!(in alloc; "{what} '{word}'")?);
-        Ok(())
+    fn refuse(&mut self, what: &'static str, word: &'w str) {
+        self.ended = Some(Words::Wrong(what, word));
     }
 
     /// Ends the words with the error that an option has no value.
-    fn refuse_without_value(&mut self, alloc: Global, kind: Word) -> Result<(), AllocError> {
+    fn refuse_without_value(&mut self, kind: Word) {
         let name = if kind == Word::Store {
             "--store"
         } else {
             "--output"
         };
-        self.refuse(alloc, "a value is required for", name)
+        self.refuse("a value is required for", name);
     }
 
     /// Takes the value of an option as the place to write to; an empty value is none.
-    fn read_target(&mut self, alloc: Global, kind: Word, value: &str) -> Result<(), AllocError> {
+    fn read_target(&mut self, kind: Word, value: &'w str) {
         if value.is_empty() {
-            return self.refuse_without_value(alloc, kind);
-        }
-        let value = String::from_str(alloc, value)?;
-        self.target = if kind == Word::Store {
-            Target::Store(value)
+            self.refuse_without_value(kind);
+        } else if kind == Word::Store {
+            self.target = Target::Store(value);
         } else {
-            Target::File(value)
-        };
-        Ok(())
+            self.target = Target::File(value);
+        }
     }
 
     /// Takes a word as the database or, after that, as the image.
-    fn read_file(&mut self, alloc: Global, word: &str) -> Result<(), AllocError> {
-        if self.image.is_some() {
-            return self.refuse(alloc, "unexpected argument", word);
-        }
-        let path = Some(String::from_str(alloc, word)?);
+    fn read_file(&mut self, word: &'w str) {
         if self.file.is_none() {
-            self.file = path;
+            self.file = Some(word);
+        } else if self.image.is_none() {
+            self.image = Some(word);
         } else {
-            self.image = path;
+            self.refuse("unexpected argument", word);
         }
-        Ok(())
     }
 
     /// Reads a word that wants no value.
-    fn read_flag(&mut self, alloc: Global, kind: Word, word: &str) -> Result<(), AllocError> {
+    fn read_flag(&mut self, kind: Word, word: &'w str) {
         match kind {
             Word::NoInlines => self.inlines = false,
             Word::NoDemangle => self.demangle = false,
             Word::Plain => self.plain = true,
-            Word::Help => self.help = true,
-            Word::Version => self.version = true,
-            Word::Unknown => return self.refuse(alloc, "unexpected argument", word),
-            _ => return self.read_file(alloc, word),
+            Word::Help => self.ended = Some(Words::Help),
+            Word::Version => self.ended = Some(Words::Version),
+            Word::Unknown => self.refuse("unexpected argument", word),
+            _ => self.read_file(word),
         }
-        Ok(())
     }
 
-    /// Reads a word. Returns whether it is an option that wants the next word as its value.
-    fn read_word(&mut self, alloc: Global, word: &str) -> Result<Option<Word>, AllocError> {
+    /// Reads a word. Returns its kind if it is an option that wants the next word as its value.
+    fn read_word(&mut self, word: &'w str) -> Option<Word> {
         if self.plain {
-            self.read_file(alloc, word)?;
-            return Ok(None);
+            self.read_file(word);
+            return None;
         }
         let (name, value) = with_value(word);
         let kind = word_of(name);
         match (kind, value) {
-            (Word::Output | Word::Store, Some(value)) => self.read_target(alloc, kind, value)?,
-            (Word::Output | Word::Store, None) => return Ok(Some(kind)),
-            _ => self.read_flag(alloc, kind, word)?,
+            (Word::Output | Word::Store, Some(value)) => self.read_target(kind, value),
+            (Word::Output | Word::Store, None) => return Some(kind),
+            _ => self.read_flag(kind, word),
         }
-        Ok(None)
+        None
     }
 
-    /// Reads all words.
-    fn read_all(&mut self, alloc: Global, words: &[String]) -> Result<(), AllocError> {
+    /// Reads all words, up to one that ends them.
+    fn read_all(&mut self, words: &'w [String]) {
         let mut wanting: Option<Word> = None;
         for word in words {
-            if self.has_ended() {
-                return Ok(());
+            if self.ended.is_some() {
+                return;
             }
             wanting = match wanting {
                 Some(kind) => {
-                    self.read_target(alloc, kind, word.as_str())?;
+                    self.read_target(kind, word.as_str());
                     None
                 }
-                None => self.read_word(alloc, word.as_str())?,
+                None => self.read_word(word.as_str()),
             };
         }
-        match wanting {
-            Some(kind) if !self.has_ended() => self.refuse_without_value(alloc, kind),
-            _ => Ok(()),
+        if let Some(kind) = wanting {
+            self.refuse_without_value(kind);
         }
     }
 
     /// The request that the words make.
-    fn asked(self) -> Words {
-        let Choices {
-            file,
-            image,
-            inlines,
-            demangle,
-            target,
-            help,
-            version,
-            error,
-            plain: _,
-        } = self;
-        match (error, file) {
-            (Some(error), _) => Words::Wrong(error),
-            (None, _) if help => Words::Help,
-            (None, _) if version => Words::Version,
+    fn asked(&self) -> Words<'w> {
+        match (self.ended, self.file) {
+            (Some(words), _) => words,
             (None, None) => Words::NoFile,
             (None, Some(file)) => Words::Options(Options {
                 file,
-                image,
-                inlines,
-                demangle,
-                target,
+                image: self.image,
+                inlines: self.inlines,
+                demangle: self.demangle,
+                target: self.target,
             }),
         }
     }
 }
 
 /// The request that the words make.
-///
-/// # Errors
-/// `AllocError` when memory runs out.
-pub fn read_options(alloc: Global, words: &[String]) -> Result<Words, AllocError> {
+pub fn read_options(words: &[String]) -> Words<'_> {
     let mut choices = Choices {
         file: None,
         image: None,
         inlines: true,
         demangle: true,
         target: Target::Output,
-        help: false,
-        version: false,
-        error: None,
         plain: false,
+        ended: None,
     };
-    choices.read_all(alloc, words)?;
-    Ok(choices.asked())
+    choices.read_all(words);
+    choices.asked()
 }

@@ -7,7 +7,7 @@ use crate::fault::SymbolsFault;
 use crate::options::{Options, Target};
 use std::alloc::{AllocError, Global};
 use std::fs;
-use std::fs::{File, Metadata};
+use std::fs::File;
 use std::io::{self, ErrorKind};
 use std::os::unix::fs::MetadataExt;
 use std::path::Path;
@@ -112,6 +112,19 @@ fn create_beside<S: Files + AllocGlobal>(
     Err(SymbolsFault::of_write(ErrorKind::AlreadyExists))
 }
 
+/// Opens the file at a path, which is written into.
+fn open_existing<S: Files>(rt: &S, path: &str) -> Result<OutputFile<S::File>, SymbolsFault>
+    ensures { IfErr result FailsToWrite }
+{
+    match fs::create(rt, path) {
+        Ok(file) => Ok(OutputFile {
+            file,
+            renaming: None,
+        }),
+        Err(error) => Err(SymbolsFault::of_write(error.kind())),
+    }
+}
+
 /// Opens the file at a path, or where its links lead, for writing. A device or a FIFO is written
 /// into. A regular file, which may be there or not, is written beside its path.
 ///
@@ -124,14 +137,11 @@ pub fn open_output<S: Files + AllocGlobal>(
     ensures { IfErr result FailsToWrite }
 {
     let path = write_fault(followed(rt, path))?;
-    if !is_written_into(rt, path.as_str())? {
-        return create_beside(rt, path);
+    if is_written_into(rt, path.as_str())? {
+        open_existing(rt, path.as_str())
+    } else {
+        create_beside(rt, path)
     }
-    let file = write_fault(fs::create(rt, path.as_str()))?;
-    Ok(OutputFile {
-        file,
-        renaming: None,
-    })
 }
 
 impl<F: Drop> OutputFile<F> {
@@ -160,23 +170,33 @@ impl<F: Drop> OutputFile<F> {
     }
 }
 
+/// The device of a regular file, and its number there.
+#[derive(Clone, Copy, PartialEq, Eq)]
+struct Inode {
+    device: u64,
+    number: u64,
+}
+
 /// The regular file that a path leads to; `None` where it leads to none, or can't be followed.
-fn regular_at(rt: &impl Files, path: &str) -> Result<Option<Metadata>, SymbolsFault>
+fn regular_at(rt: &impl Files, path: &str) -> Result<Option<Inode>, SymbolsFault>
     ensures { IfErr result FailsToWrite }
 {
     match fs::metadata(rt, path) {
-        Ok(metadata) if metadata.is_file() => Ok(Some(metadata)),
+        Ok(metadata) if metadata.is_file() => Ok(Some(Inode {
+            device: metadata.dev(),
+            number: metadata.ino(),
+        })),
         Err(error) if error.kind() == ErrorKind::OutOfMemory => Err(SymbolsFault::out_of_memory()),
         _ => Ok(None),
     }
 }
 
-/// Whether a path leads to a regular file.
-fn leads_to(rt: &impl Files, path: &str, file: &Metadata) -> Result<bool, SymbolsFault>
+/// Whether a path, if there is one, leads to a regular file.
+fn leads_to(rt: &impl Files, path: Option<&str>, file: Inode) -> Result<bool, SymbolsFault>
     ensures { IfErr result FailsToWrite }
 {
-    match regular_at(rt, path)? {
-        Some(found) => Ok(found.dev() == file.dev() && found.ino() == file.ino()),
+    match path {
+        Some(path) => Ok(regular_at(rt, path)? == Some(file)),
         None => Ok(false),
     }
 }
@@ -185,19 +205,16 @@ fn leads_to(rt: &impl Files, path: &str, file: &Metadata) -> Result<bool, Symbol
 ///
 /// # Errors
 /// Out of memory.
-pub fn is_read(rt: &impl Files, options: &Options, path: &str) -> Result<bool, SymbolsFault>
+pub fn is_read(rt: &impl Files, options: &Options<'_>, path: &str) -> Result<bool, SymbolsFault>
     ensures { IfErr result FailsToWrite }
 {
     let Some(output) = regular_at(rt, path)? else {
         return Ok(false);
     };
-    if leads_to(rt, options.file.as_str(), &output)? {
+    if leads_to(rt, Some(options.file), output)? {
         return Ok(true);
     }
-    match &options.image {
-        Some(image) => leads_to(rt, image.as_str(), &output),
-        None => Ok(false),
-    }
+    leads_to(rt, options.image, output)
 }
 
 /// Whether the file of `--output` is the database or the image. The path of a store's file is known
@@ -205,9 +222,9 @@ pub fn is_read(rt: &impl Files, options: &Options, path: &str) -> Result<bool, S
 ///
 /// # Errors
 /// Out of memory.
-pub fn is_output_read(rt: &impl Files, options: &Options) -> Result<bool, SymbolsFault> {
-    match &options.target {
-        Target::File(path) => is_read(rt, options, path.as_str()),
+pub fn is_output_read(rt: &impl Files, options: &Options<'_>) -> Result<bool, SymbolsFault> {
+    match options.target {
+        Target::File(path) => is_read(rt, options, path),
         _ => Ok(false),
     }
 }

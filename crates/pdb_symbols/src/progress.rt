@@ -38,9 +38,13 @@ impl<E: Write> Progress<E> {
     /// is ignored.
     pub fn advance(&mut self, count: u32) {
         self.done = self.done.saturating_add(u64::from(count));
-        if !self.shows || self.all == 0 {
-            return;
+        if self.shows && self.all != 0 {
+            self.show();
         }
+    }
+
+    /// Shows the progress; a write that fails is ignored.
+    fn show(&mut self) {
         if self.all <= self.done {
             let _ = self.errors.write_all(ERASED);
             return;

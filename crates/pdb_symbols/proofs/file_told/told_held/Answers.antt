@@ -1,4 +1,4 @@
-use Rattle.std.proofs.Common.{◌∙◌, ap, arith, sym}
+use Rattle.std.proofs.Common.{◌∙◌, ap, sym}
 use Rattle.pdb_addr2line.specs.FileAnswers.{FileAnswers}
 use Rattle.pdb_addr2line.proofs.FileSteps.{context_asked}
 use Rattle.pdb_symbols.proofs.ToldSteps.{counted_by}
@@ -11,8 +11,7 @@ put_context-requires g c =
 
 pub returns-clause-counted : goal.returns-clause-counted
 returns-clause-counted g c =
-    counted_by _ _ c.in-Some.context c.told_at_place-run.new.context _ _ c.saturating_sub.result
+    counted_by c.told_at_place-run.result _ _ c.in-Some.context c.told_at_place-run.new.context _ _
     (sym c.take_context.ensures.context ∙ c.in-Some.is)
     (ap (λ (f : FileAnswers). f.context) c.put_context.ensures)
-    (omega (arith, c.saturating_sub.ensures, c.lookups-after.ensures, c.lookups-before.ensures))
-    c.saturating_add.ensures
+    c.told_at_place-run.ensures.counted
