@@ -2,13 +2,13 @@
 
 ghost use Rattle.std.specs.Prelude.{◌≡◌, ◌++◌, OnOk, IfOk, codes};
 ghost use Rattle.std.specs.List.{repeat};
+ghost use Rattle.std.specs.Fmt.{decimal};
 ghost use Rattle.std.specs.Prelude.{string_bytes};
-ghost use Rattle.pdb_listings.specs.Values.{bare_value, plain_field, plain_text, plain_value};
-ghost use Rattle.pdb_listings.specs.Values.{tenths_text};
+ghost use Rattle.pdb_listings.specs.Values.{address_text, bare_value, plain_field, plain_text};
+ghost use Rattle.pdb_listings.specs.Values.{plain_value, tenths_text};
 
 use crate::value::{Field, Value};
 use std::alloc::{AllocError, Global};
-use std::fmt::Write;
 
 /// Appends a text.
 pub(crate) fn append(output: &mut Vec<u8>, text: &str) -> Result<(), AllocError>
@@ -49,42 +49,57 @@ pub(crate) fn tenths_string(alloc: Global, tenths: u64) -> Result<String, AllocE
 {
     let whole = tenths / 10;
     let rest = tenths % 10;
-    let mut text = String::new(alloc);
-    write!(text, "{whole}.{rest}")?;
+    Ok(format!(in alloc; "{whole}.{rest}")?)
+}
+
+/// The text of a share in a line for people.
+fn share_string(alloc: Global, tenths: u64) -> Result<String, AllocError>
+    ensures { IfOk result (λ text. string_bytes text ≡ tenths_text tenths ++ codes "%") }
+{
+    let mut text = tenths_string(alloc, tenths)?;
+    text.push_str("%")?;
     Ok(text)
+}
+
+/// The text of a number after a sign.
+fn number_string(alloc: Global, sign: &str, number: u64) -> Result<String, AllocError>
+    ensures { IfOk result (λ text. string_bytes text ≡ sign.now ++ decimal number) }
+{
+    Ok(format!(in alloc; "{sign}{number}")?)
+}
+
+/// The text of an address.
+fn address_string(alloc: Global, address: u32) -> Result<String, AllocError>
+    ensures { IfOk result (λ text. string_bytes text ≡ address_text address) }
+{
+    Ok(format!(in alloc; "0x{address:08x}")?)
 }
 
 /// The text of a value without quotes.
 pub(crate) fn bare_string(alloc: Global, value: &Value<'_>) -> Result<String, AllocError>
     ensures { IfOk result (λ text. string_bytes text ≡ bare_value value.now) }
 {
-    let mut text = String::new(alloc);
     match value {
-        Value::Unknown => {}
-        Value::Number(number) | Value::Change(true, number) => write!(text, "{number}")?,
-        Value::Address(address) => write!(text, "0x{address:08x}")?,
-        Value::Change(false, by) => write!(text, "-{by}")?,
-        Value::Share(tenths) => return tenths_string(alloc, *tenths),
-        Value::Text(given) => text.push_str(given)?,
+        Value::Unknown => Ok(String::new(alloc)),
+        Value::Number(number) => number_string(alloc, "", *number),
+        Value::Address(address) => address_string(alloc, *address),
+        Value::Change(true, by) => number_string(alloc, "", *by),
+        Value::Change(false, by) => number_string(alloc, "-", *by),
+        Value::Share(tenths) => tenths_string(alloc, *tenths),
+        Value::Text(given) => String::from_str(alloc, given),
     }
-    Ok(text)
 }
 
 /// The text of a value in a line for people.
 fn plain_string(alloc: Global, value: &Value<'_>) -> Result<String, AllocError>
     ensures { IfOk result (λ text. string_bytes text ≡ plain_value value.now) }
 {
-    let mut text = String::new(alloc);
     match value {
-        Value::Unknown => write!(text, "??")?,
-        Value::Change(true, by) => write!(text, "+{by}")?,
-        Value::Share(tenths) => {
-            let number = tenths_string(alloc, *tenths)?;
-            write!(text, "{number}%")?;
-        }
-        value => return bare_string(alloc, value),
+        Value::Unknown => String::from_str(alloc, "??"),
+        Value::Change(true, by) => number_string(alloc, "+", *by),
+        Value::Share(tenths) => share_string(alloc, *tenths),
+        value => bare_string(alloc, value),
     }
-    Ok(text)
 }
 
 /// Appends a field as it stands in a line for people.
