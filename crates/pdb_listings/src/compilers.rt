@@ -14,19 +14,17 @@ const S_COMPILE3: u16 = 0x113c;
 /// ones.
 const FIRST_SYMBOLS: usize = 16;
 
-/// The numbers of a version, with points between them.
-fn version_text(alloc: Global, bytes: &[u8]) -> Result<String, AllocError> {
-    let mut text = String::new(alloc);
+/// Appends a blank and the numbers of a version, with points between them.
+fn append_version(text: &mut String, bytes: &[u8]) -> Result<(), AllocError> {
+    let mut before = " ";
     let mut rest = bytes;
     while rest.len() >= 2 {
         let number = half_at(rest, 0);
-        write!(text, "{number}")?;
+        write!(text, "{before}{number}")?;
+        before = ".";
         rest = &rest[2..];
-        if rest.len() >= 2 {
-            text.push_str(".")?;
-        }
     }
-    Ok(text)
+    Ok(())
 }
 
 /// The bytes before the first NUL, or all of them.
@@ -48,17 +46,13 @@ fn compiler_in(alloc: Global, bytes: &[u8], version: usize) -> Result<Option<Str
     // Flags, a machine, and the version of the compiler's front stand before the compiler's own.
     let start = version.saturating_add(6);
     let end = start.saturating_add(version);
-    let Some(numbers) = bytes.get(start..end) else {
-        return Ok(None);
-    };
-    let Some(name) = bytes.get(end..) else {
+    let (Some(numbers), Some(name)) = (bytes.get(start..end), bytes.get(end..)) else {
         return Ok(None);
     };
     let name = before_nul(name);
     let mut text = String::from_utf8_lossy(alloc, name)?;
     if !has_digit(name) {
-        let numbers = version_text(alloc, numbers)?;
-        write!(text, " {numbers}")?;
+        append_version(&mut text, numbers)?;
     }
     Ok(Some(text))
 }

@@ -1,5 +1,5 @@
 use Rattle.std.proofs.Common.{length}
-use Rattle.pdb_listings.proofs.compilers.version_text.Given as goal
+use Rattle.pdb_listings.proofs.compilers.append_version.Given as goal
 
 -- the bytes that are left
 abbrev pub decreases-loop-rest : goal.decreases-loop-rest
