@@ -30,11 +30,10 @@ pub struct FunctionRow {
 /// The functions that a context lists.
 fn functions_of<P: ModuleProvider>(
     alloc: Global,
-    context: Context<'_, '_, P>,
+    context: &mut Context<'_, '_, P>,
 ) -> Result<Vec<Function>, AllocError>
-    ensures { IfOk result (λ functions. AreListed P.provided context.entry functions.items) }
+    ensures { IfOk result (λ functions. AreListed P.provided context.old functions.items) }
 {
-    let mut context = context;
     let mut functions = Vec::new(alloc);
     let Ok(list) = context.functions(alloc) else {
         return Err(AllocError);
@@ -151,6 +150,7 @@ pub fn list_functions<P: ModuleProvider>(
 ) -> Result<Vec<FunctionRow>, AllocError>
     ensures { IfOk result (λ rows. AreRows P.provided lister.entry context.old rows.items) }
 {
-    let functions = functions_of(alloc, lister)?;
+    let mut lister = lister;
+    let functions = functions_of(alloc, &mut lister)?;
     rows_of(alloc, context, functions)
 }

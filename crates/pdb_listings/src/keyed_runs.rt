@@ -1,7 +1,5 @@
 //! Contexts that are asked for runs of functions and of source files.
 
-ghost use Rattle.std.specs.Prelude.{◌≡◌};
-
 use pdb_addr2line::{Context, Function};
 use pdb_addresses::PdbInternalSectionOffset;
 use pdb_owners::{CountedFile, FileKey, FunctionKey, Runs};
@@ -13,19 +11,7 @@ use std::alloc::{AllocError, Global};
 #[derive(Drop)]
 pub(crate) struct FunctionRuns<'a, 's, P: ModuleProvider> {
     pub(crate) context: Context<'a, 's, P>,
-    answered: u64,
-}
-
-impl<'a, 's, P: ModuleProvider> FunctionRuns<'a, 's, P> {
-    /// A context that was asked for nothing.
-    pub(crate) fn new(context: Context<'a, 's, P>) -> FunctionRuns<'a, 's, P>
-        ensures { result.context ≡ context.entry }
-    {
-        FunctionRuns {
-            context,
-            answered: 0,
-        }
-    }
+    pub(crate) answered: u64,
 }
 
 impl<'a, 's, P: ModuleProvider> Runs for FunctionRuns<'a, 's, P> {
@@ -71,19 +57,7 @@ impl<'a, 's, P: ModuleProvider> Runs for FunctionRuns<'a, 's, P> {
 #[derive(Drop)]
 pub(crate) struct FileRuns<'a, 's, P: ModuleProvider> {
     pub(crate) context: Context<'a, 's, P>,
-    answered: u64,
-}
-
-impl<'a, 's, P: ModuleProvider> FileRuns<'a, 's, P> {
-    /// A context that was asked for nothing.
-    pub(crate) fn new(context: Context<'a, 's, P>) -> FileRuns<'a, 's, P>
-        ensures { result.context ≡ context.entry }
-    {
-        FileRuns {
-            context,
-            answered: 0,
-        }
-    }
+    pub(crate) answered: u64,
 }
 
 impl<'a, 's, P: ModuleProvider> Runs for FileRuns<'a, 's, P> {

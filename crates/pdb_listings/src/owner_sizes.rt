@@ -110,7 +110,10 @@ pub fn function_sizes<P: ModuleProvider>(
         start end result }
     ensures total { CountsBytes map.now (keyed_in P.provided context.entry) start end result }
 {
-    let mut runs = FunctionRuns::new(context);
+    let mut runs = FunctionRuns {
+        context,
+        answered: 0,
+    };
     named_sizes(
         alloc,
         map,
@@ -141,6 +144,9 @@ pub fn file_sizes<P: ModuleProvider>(
         start end result }
     ensures total { CountsBytes map.now (files_in P.provided context.entry) start end result }
 {
-    let mut runs = FileRuns::new(context);
+    let mut runs = FileRuns {
+        context,
+        answered: 0,
+    };
     named_sizes(alloc, map, &mut runs, &FileNaming { by_folder }, start, end)
 }

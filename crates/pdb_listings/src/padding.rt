@@ -84,6 +84,21 @@ fn count_joined<P: ModuleProvider>(
     Ok(())
 }
 
+/// Counts the bytes of contributions by function ([`count_joined`]), as far as there is room.
+fn count_contributions<P: ModuleProvider>(
+    alloc: Global,
+    context: &mut Context<'_, '_, P>,
+    contributions: &[DBISectionContribution],
+) -> Result<Counts<FunctionKey>, AllocError> {
+    let mut keys = Counts::new(alloc);
+    for contribution in contributions {
+        if has_room(&keys, contribution.size) {
+            count_joined(alloc, context, contribution, &mut keys)?;
+        }
+    }
+    Ok(keys)
+}
+
 /// The bytes of functions by their names, where padding counts: a byte of a contribution counts for
 /// the function that it has. A byte without a procedure counts for the last function before it in
 /// the contribution: a procedure, or a public entry that begins after it.
@@ -96,12 +111,12 @@ pub fn joined_sizes<P: ModuleProvider>(
     contributions: &[DBISectionContribution],
     undecorate: bool,
 ) -> Result<Counts<Named>, AllocError> {
-    let mut runs = FunctionRuns::new(context);
-    let mut keys = Counts::new(alloc);
-    for contribution in contributions {
-        if has_room(&keys, contribution.size) {
-            count_joined(alloc, &mut runs.context, contribution, &mut keys)?;
-        }
+    let mut runs = FunctionRuns {
+        context,
+        answered: 0,
+    };
+    match count_contributions(alloc, &mut runs.context, contributions) {
+        Ok(keys) => name_functions(alloc, &mut runs, &keys, undecorate),
+        Err(error) => Err(error),
     }
-    name_functions(alloc, &mut runs, &keys, undecorate)
 }
