@@ -2,27 +2,34 @@
 
 use pdb_addr2line::{FileFault, LoadFault};
 use std::alloc::{AllocError, AllocFailed, Global};
+use std::fmt;
 use std::io::ErrorKind;
-use thiserror::Error;
 
 /// Why a listing isn't written. It prints as it is reported.
-#[derive(Debug, Drop, Error)]
+#[derive(Drop)]
 pub enum Fault {
     /// A file can't be read: its path, and why.
-    #[error("cannot read {0}: {1}")]
     Read(String, &'static str),
     /// A file is no database that can be loaded: its path, and why.
-    #[error("cannot load {0}: {1}")]
     Load(String, LoadFault),
     /// A file is no image: its path, and why.
-    #[error("cannot read the image {0}: {1}")]
     Image(String, String),
     /// The output can't be written.
-    #[error("cannot write to standard output")]
     Write,
     /// Out of memory.
-    #[error("out of memory")]
     OutOfMemory,
+}
+
+impl fmt::Display for Fault {
+    fn fmt<W: fmt::Write>(&self, f: &mut fmt::Formatter<W>) -> fmt::Result {
+        match self {
+            Fault::Read(path, why) => write!(f, "cannot read {path}: {why}"),
+            Fault::Load(path, why) => write!(f, "cannot load {path}: {why}"),
+            Fault::Image(path, why) => write!(f, "cannot read the image {path}: {why}"),
+            Fault::Write => write!(f, "cannot write to standard output"),
+            Fault::OutOfMemory => write!(f, "out of memory"),
+        }
+    }
 }
 
 impl From<AllocError> for Fault {
