@@ -98,15 +98,22 @@ fn row_order(a: &FunctionRow, b: &FunctionRow) -> Ordering {
     a.start_rva.cmp(&b.start_rva).then(a.name.cmp(&b.name))
 }
 
+/// The functions of a database with their places, as a context lists them.
+fn listed_rows(alloc: Global, loaded: Loaded<'_>) -> Result<Vec<FunctionRow>, Fault> {
+    let lister = loaded.context(alloc)?;
+    match loaded.context(alloc) {
+        Ok(mut context) => Ok(list_functions(alloc, lister, &mut context)?),
+        Err(fault) => Err(fault),
+    }
+}
+
 /// The functions of a database with their places, by address. A context lists a function for each
 /// symbol in it that begins a piece: here it stands once.
 ///
 /// # Errors
 /// `Load`, `OutOfMemory`.
 pub fn rows_of(alloc: Global, loaded: Loaded<'_>) -> Result<Vec<FunctionRow>, Fault> {
-    let mut context = loaded.context(alloc)?;
-    let lister = loaded.context(alloc)?;
-    let mut rows = list_functions(alloc, lister, &mut context)?;
+    let mut rows = listed_rows(alloc, loaded)?;
     rows.sort_by(|a: &FunctionRow, b: &FunctionRow| row_order(a, b))?;
     rows.dedup_by(|a: &mut FunctionRow, b: &mut FunctionRow| row_order(a, b).is_eq());
     Ok(rows)

@@ -1,17 +1,18 @@
 //! What a database says of itself.
 
 use crate::arguments::Request;
-use crate::contributions::{information_of, modules_of};
-use crate::fault::{Fault, file_fault, read_fault};
-use crate::loaded::{Loaded, Needs, load_with_source};
-use crate::modules::compiler;
+use crate::contributions::{information_of_all, modules_of};
+use crate::fault::{Fault, read_fault};
+use crate::file_facts::FileFacts;
+use crate::loaded::{Loaded, Needs, load};
 use crate::output::{Output, text_or_unknown};
+use crate::sizes::add;
 use bumpalo::Bump;
-use pdb_addr2line::{FileOnDemand, PdbIdentity};
+use pdb_addr2line::PdbIdentity;
 use pdb_container::{half_at, word_at};
 use pdb_image::{Image, ImageError, read_image};
-use pdb_listings::{Column, Counts, Named, SymbolCounts, Value, add_bytes, listed};
-use pdb_symbols_modules::{MachineType, Module};
+use pdb_listings::{Column, Counts, Named, SymbolCounts, Value, compiler_of, listed};
+use pdb_symbols_modules::{MachineType, ModuleInfo, SymbolIter};
 use std::alloc::{AllocError, Global};
 use std::fs;
 use std::io::{self, Write};
@@ -76,14 +77,6 @@ const COLUMNS: &[Column] = &[
     },
 ];
 
-/// What a database's file says of itself.
-#[derive(Clone, Copy)]
-struct FileFacts {
-    identity: PdbIdentity,
-    page_size: u32,
-    streams: u32,
-}
-
 /// What a database says of itself.
 #[derive(Drop)]
 struct Information {
@@ -120,111 +113,41 @@ fn machine_text(alloc: Global, machine: MachineType) -> Result<String, AllocErro
     }
 }
 
-/// The number of the four bytes at a place of a file.
-fn word_of(file: &impl FileExt, place: u64) -> io::Result<u32> {
-    let mut bytes = [0u8; 4];
-    file.read_exact_at(&mut bytes, place)?;
-    Ok(u32::from_le_bytes(bytes))
-}
-
-/// The number of the four bytes at the beginning of a page of a file.
-fn word_of_page(file: &impl FileExt, page_size: u32, page: u32) -> io::Result<u32> {
-    word_of(file, u64::from(page_size).saturating_mul(u64::from(page)))
-}
-
-/// The page size of a container, in bytes, and how many streams it has: the first number of its
-/// directory, whose first page is named by the page of page numbers that the header names.
-fn pages_of(file: &impl FileExt) -> io::Result<(u32, u32)> {
-    let page_size = word_of(file, 32)?;
-    let list = word_of(file, 52)?;
-    let first = word_of_page(file, page_size, list)?;
-    let streams = word_of_page(file, page_size, first)?;
-    Ok((page_size, streams))
-}
-
-/// What a database's file says of itself.
-fn facts_of<F: FileExt + Drop>(
-    alloc: Global,
-    path: &str,
-    source: &mut FileOnDemand<'_, F>,
-) -> Result<FileFacts, Fault> {
-    let identity = match source.identity(alloc) {
-        Ok(identity) => identity,
-        Err(fault) => return Err(file_fault(alloc, path, fault)),
-    };
-    match pages_of(&source.file) {
-        Ok((page_size, streams)) => Ok(FileFacts {
-            identity,
-            page_size,
-            streams,
-        }),
-        Err(error) => Err(read_fault(alloc, path, error.kind())),
-    }
-}
-
-/// Loads the database of the file at a path, for all of its modules, and what the file says.
-fn load_with_facts<'a, S: Files + AllocGlobal>(
-    rt: &S,
-    arena: &'a Bump,
-    path: &'a str,
-) -> Result<(Loaded<'a>, FileFacts), Fault>
-where
-    S::File: FileExt,
-{
-    let (loaded, mut source) = load_with_source(rt, arena, path, Needs::Modules)?;
-    match facts_of(rt.alloc(), path, &mut source) {
-        Ok(facts) => Ok((loaded, facts)),
-        Err(fault) => Err(fault),
-    }
-}
-
-/// How many procedures all modules have, and how many public symbols the database has.
-fn all_symbols(loaded: Loaded<'_>, modules: &[Module<'_>]) -> Result<SymbolCounts, AllocError> {
+/// How many procedures modules have, and how many public symbols a list of records has.
+fn all_symbols(information: &[&ModuleInfo<'_>], records: SymbolIter<'_>) -> SymbolCounts {
     let mut counts = SymbolCounts::default();
-    for (number, module) in modules.iter().enumerate() {
-        let Some(module) = information_of(loaded, number, module)? else {
-            continue;
-        };
+    for module in information {
         if let Ok(symbols) = module.symbols() {
             counts.add(symbols);
         }
     }
     let mut all = SymbolCounts::default();
-    all.add(loaded.held.symbol_records().iter());
+    all.add(records);
     counts.publics = all.publics;
-    Ok(counts)
+    counts
 }
 
 /// How many modules each compiler made.
 fn modules_by_compiler(
     alloc: Global,
-    loaded: Loaded<'_>,
-    modules: &[Module<'_>],
+    information: &[&ModuleInfo<'_>],
 ) -> Result<Counts<Named>, AllocError> {
     let mut table: Counts<Named> = Counts::new(alloc);
-    for (number, module) in modules.iter().enumerate() {
-        if let Some(name) = compiler(alloc, loaded, number, module)? {
-            if table.total() < u64::MAX {
-                add_bytes(alloc, &mut table, name.as_str(), 1)?;
-            }
+    for module in information {
+        if let Some(name) = compiler_of(alloc, module)? {
+            add(alloc, &mut table, name.as_str(), 1)?;
         }
     }
     Ok(table)
 }
 
-/// The compilers of all modules, with how many modules each made.
-fn all_compilers(
-    alloc: Global,
-    loaded: Loaded<'_>,
-    modules: &[Module<'_>],
-) -> Result<String, AllocError> {
-    let sizes = listed(alloc, &modules_by_compiler(alloc, loaded, modules)?)?;
+/// The compilers of modules, with how many modules each made.
+fn all_compilers(alloc: Global, information: &[&ModuleInfo<'_>]) -> Result<String, AllocError> {
+    let sizes = listed(alloc, &modules_by_compiler(alloc, information)?)?;
     let mut text = String::new(alloc);
     for size in &sizes {
-        if !text.is_empty() {
-            text.push_str(", ")?;
-        }
-        write!(text, "{} ({})", size.name, size.bytes)?;
+        let before = if text.is_empty() { "" } else { ", " };
+        write!(text, "{before}{} ({})", size.name, size.bytes)?;
     }
     Ok(text)
 }
@@ -305,12 +228,13 @@ fn gathered(
     fits: Option<String>,
 ) -> Result<Information, Fault> {
     let modules = modules_of(alloc, loaded)?;
+    let information = information_of_all(alloc, loaded.modules, &modules)?;
     Ok(Information {
         guid: guid_text(alloc, &identity.guid)?,
         machine: machine_text(alloc, loaded.held.debug_information().machine_type())?,
         modules: modules.len(),
-        symbols: all_symbols(loaded, &modules)?,
-        compilers: all_compilers(alloc, loaded, &modules)?,
+        symbols: all_symbols(&information, loaded.held.symbol_records().iter()),
+        compilers: all_compilers(alloc, &information)?,
         fits,
     })
 }
@@ -355,7 +279,10 @@ pub fn write<S: Files + AllocGlobal, W: Write + Drop>(
 where
     S::File: FileExt,
 {
-    let (loaded, facts) = load_with_facts(rt, arena, request.file)?;
+    let loaded = load(rt, arena, request.file, Needs::Facts)?;
+    let Some(facts) = loaded.facts else {
+        return Ok(());
+    };
     let fits = fits_if_given(rt, request.other(), facts.identity)?;
     let found = gathered(rt.alloc(), loaded, facts.identity, fits)?;
     write_row(request.file, facts, &found, output)

@@ -4,11 +4,12 @@ ghost use Rattle.std.specs.Prelude.{IfOk};
 ghost use Rattle.pdb_addresses.specs.Addresses.{IsOrdered};
 
 use crate::fault::{Fault, file_fault, load_fault, read_fault};
-use crate::opened_file::{OpenedFile, open};
+use crate::file_facts::{FileFacts, facts_of};
+use crate::opened_file::open;
 use bumpalo::Bump;
 use pdb_addr2line::{
     ContributionOrder, FileContext, FileOnDemand, FileSymbolizer, Held, KeptModules, LoadFault,
-    NotLoaded, TRIES, TypeFormatterFlags,
+    NotLoaded, Result as ContextResult, TRIES, TypeFormatterFlags,
 };
 use pdb_addresses::AddressMap;
 use pdb_container::{Error, Result as ReadResult, StringTable};
@@ -26,6 +27,10 @@ pub enum Needs {
     Tables,
     /// All of its modules.
     Modules,
+    /// All of its modules, and the names of its string table.
+    Names,
+    /// All of its modules, and what its file says of itself.
+    Facts,
 }
 
 /// A database that is loaded. What is held of it lies in an arena, and stays there until the
@@ -38,6 +43,10 @@ pub struct Loaded<'a> {
     pub held: &'a Held,
     /// Its modules.
     pub modules: &'a KeptModules<'static>,
+    /// The names of its string table (`/names`), if they are needed and can be read.
+    pub names: Option<&'a StringTable<'static>>,
+    /// What its file says of itself, if that is needed.
+    pub facts: Option<FileFacts>,
 }
 
 /// Reads all modules of a file.
@@ -57,33 +66,90 @@ fn read_modules<F: FileExt + Drop>(
     Err(Fault::OutOfMemory)
 }
 
-/// A database by what was read of its file, and the file.
-fn loaded_by<'a, F: Drop>(
+/// The names of the string table (`/names`) by what was read of a file. What they lack is noted as
+/// wanted.
+fn names_read<F: Drop>(
+    alloc: Global,
+    source: &FileOnDemand<'_, F>,
+    wanted: &Wanted,
+) -> ReadResult<StringTable<'static>> {
+    let bytes = FileSource::of_views(alloc, &source.views, &source.contents, wanted)?;
+    match PDB::open(alloc, bytes) {
+        Ok(mut pdb) => pdb.string_table(alloc),
+        Err(error) => Err(error),
+    }
+}
+
+/// The names of the string table (`/names`) of a file that was loaded; `None` where they can't be
+/// read. Loading reads them.
+fn names_of<'a, F: Drop>(
+    alloc: Global,
+    source: &FileOnDemand<'a, F>,
+) -> Result<Option<&'a StringTable<'static>>, Fault> {
+    let wanted = Wanted::new(alloc)?;
+    match names_read(alloc, source, &wanted) {
+        Ok(names) => Ok(Some(source.arena.try_alloc(names)?)),
+        Err(Error::OutOfMemory) => Err(Fault::OutOfMemory),
+        Err(_) => Ok(None),
+    }
+}
+
+/// A database with what is needed beside its modules, from its file.
+fn with_needs<'a, F: FileExt + Drop>(
+    alloc: Global,
+    mut loaded: Loaded<'a>,
+    source: &mut FileOnDemand<'a, F>,
+    needs: Needs,
+) -> Result<Loaded<'a>, Fault> {
+    match needs {
+        Needs::Tables | Needs::Modules => {}
+        Needs::Names => loaded.names = names_of(alloc, source)?,
+        Needs::Facts => loaded.facts = Some(facts_of(alloc, loaded.path, source)?),
+    }
+    Ok(loaded)
+}
+
+/// The modules that a context goes over. The context is left to the process.
+fn modules_in(context: Option<FileContext<'_>>) -> Option<&KeptModules<'static>> {
+    match context {
+        Some(context) => {
+            let modules = context.provider();
+            forget(context);
+            Some(modules)
+        }
+        None => None,
+    }
+}
+
+/// A database by what was read of its file, which is let go of.
+fn loaded_by<'a, F: FileExt + Drop>(
+    alloc: Global,
     path: &'a str,
     symbolizer: FileSymbolizer<'a, F>,
-) -> Result<(Loaded<'a>, FileOnDemand<'a, F>), Fault> {
+    needs: Needs,
+) -> Result<Loaded<'a>, Fault> {
     let held = symbolizer.held();
-    let (source, context) = symbolizer.into_parts();
-    let Some(context) = context else {
+    let (mut source, context) = symbolizer.into_parts();
+    let Some(modules) = modules_in(context) else {
         return Err(Fault::OutOfMemory);
     };
-    let modules = context.provider();
-    forget(context);
     let loaded = Loaded {
         path,
         held,
         modules,
+        names: None,
+        facts: None,
     };
-    Ok((loaded, source))
+    with_needs(alloc, loaded, &mut source, needs)
 }
 
-/// Loads the database of a file, and returns the file too, with what was read of it.
+/// Loads the database of a file.
 fn load_file<'a, F: FileExt + Drop>(
     alloc: Global,
     path: &'a str,
     source: FileOnDemand<'a, F>,
     needs: Needs,
-) -> Result<(Loaded<'a>, FileOnDemand<'a, F>), Fault> {
+) -> Result<Loaded<'a>, Fault> {
     let mut symbolizer = match FileSymbolizer::open(alloc, source) {
         Ok(symbolizer) => symbolizer,
         Err(NotLoaded { fault, source }) => {
@@ -91,35 +157,16 @@ fn load_file<'a, F: FileExt + Drop>(
             return Err(file_fault(alloc, path, fault));
         }
     };
-    if matches!(needs, Needs::Modules) {
+    if !matches!(needs, Needs::Tables) {
         read_modules(alloc, path, &mut symbolizer)?;
     }
-    loaded_by(path, symbolizer)
-}
-
-/// Loads the database of the file at a path, and returns the file too, with what was read of it.
-///
-/// # Errors
-/// `Read`, `Load`, `OutOfMemory`.
-pub fn load_with_source<'a, S: Files + AllocGlobal>(
-    rt: &S,
-    arena: &'a Bump,
-    path: &'a str,
-    needs: Needs,
-) -> Result<(Loaded<'a>, FileOnDemand<'a, OpenedFile<S::File>>), Fault>
-where
-    S::File: FileExt,
-{
-    match open(rt, arena, path) {
-        Ok(source) => load_file(rt.alloc(), path, source, needs),
-        Err(fault) => Err(fault),
-    }
+    loaded_by(alloc, path, symbolizer, needs)
 }
 
 /// Loads the database of the file at a path.
 ///
 /// # Errors
-/// As [`load_with_source`].
+/// `Read`, `Load`, `OutOfMemory`.
 pub fn load<'a, S: Files + AllocGlobal>(
     rt: &S,
     arena: &'a Bump,
@@ -129,11 +176,8 @@ pub fn load<'a, S: Files + AllocGlobal>(
 where
     S::File: FileExt,
 {
-    match load_with_source(rt, arena, path, needs) {
-        Ok((loaded, source)) => {
-            drop(source);
-            Ok(loaded)
-        }
+    match open(rt, arena, path) {
+        Ok(source) => load_file(rt.alloc(), path, source, needs),
         Err(fault) => Err(fault),
     }
 }
@@ -159,73 +203,23 @@ impl<'a> Loaded<'a> {
     /// # Errors
     /// `Load` where its address map is out of order; `OutOfMemory`.
     pub fn context(self, alloc: Global) -> Result<FileContext<'a>, Fault> {
-        if !self.held.address_map().is_ordered() {
-            let fault = LoadFault::AddressTableDecreases;
-            return Err(load_fault(alloc, self.path, fault));
-        }
-        let flags = TypeFormatterFlags::default();
-        let order = ContributionOrder::Any;
-        let made = match self.held.make_context_with_order(alloc, flags, order) {
-            Ok(context) => {
-                let parts = context.into_parts();
-                self.held.make_context_over(alloc, self.modules, parts)
-            }
-            Err(error) => Err(error),
-        };
-        match made {
+        self.address_map(alloc)?;
+        match context_over(alloc, self.held, self.modules) {
             Ok(context) => Ok(context),
             Err(error) => Err(load_fault(alloc, self.path, LoadFault::from(error))),
         }
     }
 }
 
-/// The names of the string table (`/names`) by what was read of a file. What they lack is noted as
-/// wanted.
-fn names_read<F: Drop>(
+/// A context over a database, and over modules of it.
+fn context_over<'a>(
     alloc: Global,
-    source: &FileOnDemand<'_, F>,
-    wanted: &Wanted,
-) -> ReadResult<StringTable<'static>> {
-    let bytes = FileSource::of_views(alloc, &source.views, &source.contents, wanted)?;
-    match PDB::open(alloc, bytes) {
-        Ok(mut pdb) => pdb.string_table(alloc),
+    held: &'a Held,
+    modules: &'a KeptModules<'static>,
+) -> ContextResult<FileContext<'a>> {
+    let flags = TypeFormatterFlags::default();
+    match held.make_context_with_order(alloc, flags, ContributionOrder::Any) {
+        Ok(context) => held.make_context_over(alloc, modules, context.into_parts()),
         Err(error) => Err(error),
-    }
-}
-
-/// The names of the string table (`/names`) of a file that was loaded; `None` where they can't be
-/// read. Loading reads them.
-///
-/// # Errors
-/// `OutOfMemory`.
-fn names_of<F: Drop>(
-    alloc: Global,
-    source: &FileOnDemand<'_, F>,
-) -> Result<Option<StringTable<'static>>, Fault> {
-    let wanted = Wanted::new(alloc)?;
-    match names_read(alloc, source, &wanted) {
-        Ok(names) => Ok(Some(names)),
-        Err(Error::OutOfMemory) => Err(Fault::OutOfMemory),
-        Err(_) => Ok(None),
-    }
-}
-
-/// Loads the database of the file at a path, for all of its modules, and the names of its string
-/// table ([`names_of`]).
-///
-/// # Errors
-/// As [`load_with_source`].
-pub fn load_with_names<'a, S: Files + AllocGlobal>(
-    rt: &S,
-    arena: &'a Bump,
-    path: &'a str,
-) -> Result<(Loaded<'a>, Option<StringTable<'static>>), Fault>
-where
-    S::File: FileExt,
-{
-    let (loaded, source) = load_with_source(rt, arena, path, Needs::Modules)?;
-    match names_of(rt.alloc(), &source) {
-        Ok(names) => Ok((loaded, names)),
-        Err(fault) => Err(fault),
     }
 }

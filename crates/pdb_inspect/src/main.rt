@@ -9,6 +9,7 @@ mod arguments;
 mod contributions;
 mod diff;
 mod fault;
+mod file_facts;
 mod functions;
 mod info;
 mod lines;

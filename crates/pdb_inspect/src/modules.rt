@@ -4,6 +4,7 @@ use crate::contributions::{information_of, modules_of, sizes_of_modules};
 use crate::fault::Fault;
 use crate::loaded::Loaded;
 use crate::output::{Output, text_or_unknown};
+use pdb_addr2line::KeptModules;
 use pdb_listings::{Column, Counts, ModulePart, Part, Value, compiler_of};
 use pdb_symbols_modules::Module;
 use std::alloc::{AllocError, Global};
@@ -96,16 +97,13 @@ fn bytes_of(
 }
 
 /// The compiler that made a module, if it is known.
-///
-/// # Errors
-/// `AllocError` when memory runs out.
-pub fn compiler(
+fn compiler(
     alloc: Global,
-    loaded: Loaded<'_>,
+    kept: &KeptModules<'static>,
     number: usize,
     module: &Module<'_>,
 ) -> Result<Option<String>, AllocError> {
-    match information_of(loaded, number, module)? {
+    match information_of(kept, number, module)? {
         Some(information) => compiler_of(alloc, information),
         None => Ok(None),
     }
@@ -143,13 +141,13 @@ fn unless_empty(text: &str) -> Value<'_> {
 /// Writes the row of a module, whose number is given.
 fn write_module<W: Write + Drop>(
     alloc: Global,
-    loaded: Loaded<'_>,
+    kept: &KeptModules<'static>,
     number: usize,
     module: &Module<'_>,
     bytes: PartBytes,
     output: &mut Output<W>,
 ) -> Result<(), Fault> {
-    let compiler = compiler(alloc, loaded, number, module)?;
+    let compiler = compiler(alloc, kept, number, module)?;
     let Ok(name) = module.module_name(alloc) else {
         return Err(Fault::OutOfMemory);
     };
@@ -168,13 +166,13 @@ fn write_module<W: Write + Drop>(
 /// Writes the rows of modules, each with the bytes of its parts.
 fn write_modules<W: Write + Drop>(
     alloc: Global,
-    loaded: Loaded<'_>,
+    kept: &KeptModules<'static>,
     modules: &[Module<'_>],
     parts: &[PartBytes],
     output: &mut Output<W>,
 ) -> Result<(), Fault> {
     for (number, (module, bytes)) in modules.iter().zip(parts).enumerate() {
-        write_module(alloc, loaded, number, module, *bytes, output)?;
+        write_module(alloc, kept, number, module, *bytes, output)?;
     }
     Ok(())
 }
@@ -203,6 +201,6 @@ pub fn write<W: Write + Drop>(
     let modules = modules_of(alloc, loaded)?;
     let parts = bytes_of(alloc, &sizes_of_modules(alloc, loaded)?, modules.len())?;
     output.header(COLUMNS)?;
-    write_modules(alloc, loaded, &modules, &parts, output)?;
+    write_modules(alloc, loaded.modules, &modules, &parts, output)?;
     write_others(&parts, output)
 }

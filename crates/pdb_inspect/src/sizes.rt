@@ -43,7 +43,15 @@ fn end_of(map: &AddressMap<'_>) -> u32 {
 }
 
 /// Adds bytes to a name, unless all names together would have more than 2^64 - 1.
-fn add(alloc: Global, table: &mut Counts<Named>, name: &str, bytes: u64) -> Result<(), AllocError> {
+///
+/// # Errors
+/// `AllocError` when memory runs out.
+pub fn add(
+    alloc: Global,
+    table: &mut Counts<Named>,
+    name: &str,
+    bytes: u64,
+) -> Result<(), AllocError> {
     if table.total().checked_add(bytes).is_none() {
         return Ok(());
     }
@@ -61,9 +69,8 @@ fn by_code(
     let end = end_of(map);
     let context = loaded.context(alloc)?;
     let sizes = match by {
-        By::File => file_sizes(alloc, map, context, 0, end, false),
-        By::Folder => file_sizes(alloc, map, context, 0, end, true),
-        _ => function_sizes(alloc, map, context, 0, end, undecorate),
+        By::Function => function_sizes(alloc, map, context, 0, end, undecorate),
+        _ => file_sizes(alloc, map, context, 0, end, matches!(by, By::Folder)),
     };
     Ok(sizes?)
 }

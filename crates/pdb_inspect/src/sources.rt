@@ -1,14 +1,15 @@
 //! Source files, compared with those that a database was built of.
 
 use crate::arguments::Request;
-use crate::contributions::{information_of, modules_of};
+use crate::contributions::{information_of_all, modules_of};
 use crate::fault::{Fault, read_fault};
-use crate::loaded::{Loaded, load_with_names};
+use crate::loaded::{Loaded, Needs, load};
 use crate::output::Output;
 use crate::progress::Progress;
 use bumpalo::Bump;
 use pdb_container::StringTable;
 use pdb_listings::{Column, SourceFile, StoredSum, Value, Verdict, append_sources, verdict_of};
+use pdb_symbols_modules::ModuleInfo;
 use std::alloc::{AllocError, Global};
 use std::cmp::Ordering;
 use std::fs;
@@ -57,22 +58,28 @@ fn source_order(a: &SourceFile, b: &SourceFile) -> Ordering {
     paths.then(a_kind.cmp(&b_kind)).then(a_bytes.cmp(b_bytes))
 }
 
+/// The source files of modules, in the order of the modules.
+fn listed_sources(
+    alloc: Global,
+    names: &StringTable<'_>,
+    information: &[&ModuleInfo<'_>],
+) -> Result<Vec<SourceFile>, AllocError> {
+    let mut sources = Vec::new(alloc);
+    for module in information {
+        append_sources(alloc, names, module, &mut sources)?;
+    }
+    Ok(sources)
+}
+
 /// The source files of all modules, by path, and each with each of its checksums once.
 fn all_sources(
     alloc: Global,
     loaded: Loaded<'_>,
-    names: &Option<StringTable<'_>>,
+    names: &StringTable<'_>,
 ) -> Result<Vec<SourceFile>, Fault> {
-    let mut sources = Vec::new(alloc);
-    let Some(names) = names else {
-        return Ok(sources);
-    };
     let modules = modules_of(alloc, loaded)?;
-    for (number, module) in modules.iter().enumerate() {
-        if let Some(module) = information_of(loaded, number, module)? {
-            append_sources(alloc, names, module, &mut sources)?;
-        }
-    }
+    let information = information_of_all(alloc, loaded.modules, &modules)?;
+    let mut sources = listed_sources(alloc, names, &information)?;
     sources.sort_by(|a: &SourceFile, b: &SourceFile| source_order(a, b))?;
     sources.dedup_by(|a: &mut SourceFile, b: &mut SourceFile| source_order(a, b).is_eq());
     Ok(sources)
@@ -231,9 +238,12 @@ pub fn write<S: Files + AllocGlobal, W: Write + Drop, E: Write>(
 where
     S::File: FileExt,
 {
-    let (loaded, names) = load_with_names(rt, arena, request.file)?;
+    let loaded = load(rt, arena, request.file, Needs::Names)?;
     let folders = request.others.as_slice();
     check_folders(rt, folders)?;
-    let sources = all_sources(rt.alloc(), loaded, &names)?;
+    let sources = match loaded.names {
+        Some(names) => all_sources(rt.alloc(), loaded, names)?,
+        None => Vec::new(rt.alloc()),
+    };
     write_verdicts(rt, &sources, folders, output, progress)
 }
