@@ -102,16 +102,6 @@ pub enum By {
     Section,
 }
 
-/// What sizes are by, in the order of [`KINDS`].
-const BYS: &[By] = &[
-    By::Function,
-    By::File,
-    By::Folder,
-    By::Module,
-    By::Library,
-    By::Section,
-];
-
 /// What is asked for.
 #[derive(Clone, Copy)]
 pub enum Task {
@@ -187,10 +177,14 @@ enum Kind {
     Value(&'static str),
     /// By its name and one of these values, which help calls so; the second text stands for none.
     Choice(&'static str, &'static str, &'static [&'static str]),
-    /// As a word, which may be left out unless it is needed.
-    Word(bool),
-    /// As any number of words, one or more of which may be needed.
-    Words(bool),
+    /// As a word, which may be left out.
+    Word,
+    /// As a word.
+    NeededWord,
+    /// As any number of words.
+    Words,
+    /// As a word or more.
+    NeededWords,
 }
 
 /// An argument of a command.
@@ -203,37 +197,37 @@ struct Argument {
 
 const FILE: Argument = Argument {
     name: "FILE",
-    kind: Kind::Word(true),
+    kind: Kind::NeededWord,
     help: "The program database: a .pdb file, in a big MSF container",
 };
 
 const OLD: Argument = Argument {
     name: "OLD",
-    kind: Kind::Word(true),
+    kind: Kind::NeededWord,
     help: "The program database: a .pdb file, in a big MSF container",
 };
 
 const NEW: Argument = Argument {
     name: "NEW",
-    kind: Kind::Word(true),
+    kind: Kind::NeededWord,
     help: "The database of the later build",
 };
 
 const FOLDERS: Argument = Argument {
     name: "FOLDER",
-    kind: Kind::Words(false),
+    kind: Kind::Words,
     help: "Folders in which the ends of the paths are looked for",
 };
 
 const IMAGE: Argument = Argument {
     name: "IMAGE",
-    kind: Kind::Word(false),
+    kind: Kind::Word,
     help: "An .exe or .dll file: whether it fits is written",
 };
 
 const NAMES: Argument = Argument {
     name: "NAME",
-    kind: Kind::Words(true),
+    kind: Kind::NeededWords,
     help: "The name of a function, whole or without arguments, and maybe +OFFSET",
 };
 
@@ -355,44 +349,29 @@ const COMMANDS: &[Described] = &[
     },
 ];
 
-/// An argument that is given by its name, as a flag unless it has a value.
-fn named_argument<'a>(given: Arg<'a>, kind: Kind) -> Arg<'a> {
-    match kind {
-        Kind::Value(name) => given.value_name(name),
-        Kind::Choice(name, usual, values) => given
-            .value_name(name)
-            .value_parser(values)
-            .default_value(usual),
-        _ => given.action(ArgAction::SetTrue),
-    }
-}
-
 /// An argument of a command.
 fn argument_of<'a>(alloc: Global, argument: &Argument) -> Arg<'a> {
     let given = Arg::new(alloc, argument.name).help(argument.help);
     match argument.kind {
-        Kind::Word(needed) => given.required(needed),
-        Kind::Words(needed) => given
-            .num_args(usize::from(needed)..)
-            .action(ArgAction::Append)
-            .required(needed),
-        kind => named_argument(given.long(argument.name), kind),
+        Kind::Flag => given.long(argument.name).action(ArgAction::SetTrue),
+        Kind::Value(name) => given.long(argument.name).value_name(name),
+        Kind::Choice(name, usual, values) => given
+            .long(argument.name)
+            .value_name(name)
+            .value_parser(values)
+            .default_value(usual),
+        Kind::Word => given,
+        Kind::NeededWord => given.required(true),
+        Kind::Words => given.num_args(0..).action(ArgAction::Append),
+        Kind::NeededWords => given.num_args(1..).action(ArgAction::Append).required(true),
     }
-}
-
-/// A command with its help, and no arguments.
-fn without_arguments<'a>(
-    alloc: Global,
-    name: &'static str,
-    about: &'static str,
-    text: &'static str,
-) -> Command<'a> {
-    Command::new(alloc, name).about(about).after_help(text)
 }
 
 /// A command with its arguments.
 fn command_of<'a>(alloc: Global, described: &Described) -> Result<Command<'a>, AllocError> {
-    let mut command = without_arguments(alloc, described.name, described.about, described.text);
+    let mut command = Command::new(alloc, described.name)
+        .about(described.about)
+        .after_help(described.text);
     for argument in described.arguments {
         command = command.arg(argument_of(alloc, argument))?;
     }
@@ -401,7 +380,9 @@ fn command_of<'a>(alloc: Global, described: &Described) -> Result<Command<'a>, A
 
 /// The program's command, without its own.
 fn bare_command<'a>(alloc: Global) -> Result<Command<'a>, AllocError> {
-    without_arguments(alloc, "pdb_inspect", ABOUT, EXAMPLES)
+    Command::new(alloc, "pdb_inspect")
+        .about(ABOUT)
+        .after_help(EXAMPLES)
         .no_binary_name(true)
         .subcommand_required(true)
         .version(VERSION)
@@ -441,15 +422,14 @@ fn format_in(matches: &ArgMatches<'_>) -> Format {
 
 /// What sizes are by.
 fn by_in(matches: &ArgMatches<'_>) -> By {
-    let Some(word) = matches.get_str("by") else {
-        return By::Function;
-    };
-    for (kind, by) in KINDS.iter().zip(BYS) {
-        if *kind == word {
-            return *by;
-        }
+    match matches.get_str("by") {
+        Some("file") => By::File,
+        Some("folder") => By::Folder,
+        Some("module") => By::Module,
+        Some("library") => By::Library,
+        Some("section") => By::Section,
+        _ => By::Function,
     }
-    By::Function
 }
 
 /// How many sizes are listed at most, if that is said; the word for it where it is no number.
