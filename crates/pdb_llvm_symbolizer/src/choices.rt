@@ -20,10 +20,8 @@ pub enum FunctionName {
 /// A fault of a word, which prints as it is reported.
 #[derive(Clone, Copy)]
 pub enum WordFault<'w> {
-    /// No option has this name, which stands after a dash.
-    Name(&'w str),
-    /// No option has this letter.
-    Letter(char),
+    /// No option has this name, or this letter, which stands after a dash.
+    Unknown(&'w str),
     /// The option that this word ends with lacks its value.
     NoValue(&'w str),
 }
@@ -31,8 +29,7 @@ pub enum WordFault<'w> {
 impl<'w> fmt::Display for WordFault<'w> {
     fn fmt<W: fmt::Write>(&self, f: &mut fmt::Formatter<W>) -> fmt::Result {
         match self {
-            WordFault::Name(name) => write!(f, "unknown argument '-{name}'"),
-            WordFault::Letter(letter) => write!(f, "unknown argument '-{letter}'"),
+            WordFault::Unknown(name) => write!(f, "unknown argument '-{name}'"),
             WordFault::NoValue(word) => write!(f, "{word}: missing argument"),
         }
     }
@@ -111,8 +108,17 @@ fn function_of(word: &str) -> FunctionName {
 }
 
 /// Appends an item to a list.
-fn push<T: Drop>(list: &mut Vec<T>, item: T) -> Result<(), AllocError> {
+///
+/// # Errors
+/// Where memory ran out.
+pub fn push<T: Drop>(list: &mut Vec<T>, item: T) -> Result<(), AllocError> {
     list.push(item)?;
+    Ok(())
+}
+
+/// Puts an item before those of a list.
+fn push_first<T: Drop>(list: &mut Vec<T>, item: T) -> Result<(), AllocError> {
+    list.insert(0, item)?;
     Ok(())
 }
 
@@ -197,11 +203,8 @@ impl<'w> Choices<'w> {
             OptionWord::Input => push(&mut self.inputs, word),
             OptionWord::Joined(setting) => self.set(setting, after_equals(name)),
             OptionWord::JoinedFile => self.set(Setting::Object, after_first(name)),
-            OptionWord::Unknown => push(&mut self.errors, WordFault::Name(name)),
-            OptionWord::UnknownLetter => {
-                let letter = name.chars().next().unwrap_or('-');
-                push(&mut self.errors, WordFault::Letter(letter))
-            }
+            OptionWord::Unknown => self.refuse(name),
+            OptionWord::UnknownLetter => self.refuse(first_letter(name)),
             OptionWord::Flag(flag) | OptionWord::Letter(flag) => {
                 self.choose(flag);
                 Ok(())
@@ -211,6 +214,11 @@ impl<'w> Choices<'w> {
                 Ok(())
             }
         }
+    }
+
+    /// Reports that no option has this name, or this letter.
+    fn refuse(&mut self, name: &'w str) -> Result<(), AllocError> {
+        push(&mut self.errors, WordFault::Unknown(name))
     }
 
     /// Reads a word: an option, an input, or letters that stand together.
@@ -230,6 +238,22 @@ impl<'w> Choices<'w> {
         Ok(())
     }
 
+    /// Takes a word: the value of the option before it, if that wants one.
+    fn take_word(&mut self, alloc: Global, word: &'w str) -> Result<(), AllocError> {
+        match self.wanting.take() {
+            Some((setting, _)) => self.set(setting, word),
+            None => self.read_word(alloc, word),
+        }
+    }
+
+    /// Reports before all else that the last word lacks its value, if it does.
+    fn refuse_wanting(&mut self) -> Result<(), AllocError> {
+        match self.wanting {
+            Some((_, word)) => push_first(&mut self.errors, WordFault::NoValue(word)),
+            None => Ok(()),
+        }
+    }
+
     /// Takes the choices of the words that the program is given, and the folders of the search
     /// path after those of the words.
     ///
@@ -237,16 +261,9 @@ impl<'w> Choices<'w> {
     /// Where memory ran out.
     pub fn read(&mut self, alloc: Global, given: &'w GivenWords) -> Result<(), AllocError> {
         for word in &given.words {
-            let read = match self.wanting.take() {
-                Some((setting, _)) => self.set(setting, word.as_str()),
-                None => self.read_word(alloc, word.as_str()),
-            };
-            read?;
+            self.take_word(alloc, word.as_str())?;
         }
-        // That the last word lacks its value is reported before all else.
-        if let Some((_, word)) = self.wanting {
-            self.errors.insert(0, WordFault::NoValue(word))?;
-        }
+        self.refuse_wanting()?;
         push_search_path(&mut self.stores, given.search_path.as_str())
     }
 }
@@ -257,6 +274,11 @@ fn after_equals(text: &str) -> &str {
         Some((_, value)) => value,
         None => "",
     }
+}
+
+/// The first character of a text.
+fn first_letter(text: &str) -> &str {
+    text.strip_suffix(after_first(text)).unwrap_or(text)
 }
 
 /// The text after the first character of another.

@@ -1,12 +1,11 @@
 //! The files of a run, each loaded once, and the answers to lines by them.
 
 use crate::arguments::Arguments;
-use crate::choices::Choices;
+use crate::choices::{Choices, push};
 use crate::database::open;
 use crate::loaded::{AskedAddress, FileAnswers};
 use crate::open_error::OpenError;
 use bumpalo::Bump;
-use pdb_addr2line::LoadFault;
 use pdb_llvm_protocol::{
     Command, LineRequest, ReportedFrame, RequestFault, RequestedFile, Style, append_error,
     append_frames, append_no_data, append_no_locals, before_nul, read_request,
@@ -19,9 +18,9 @@ use std::rt::Files;
 /// A file that was asked for: its name as text, and what answers its addresses, or why it isn't
 /// loaded.
 #[derive(Drop)]
-struct AskedFile<'a, F: Drop> {
+struct AskedFile<L: Drop> {
     text: String,
-    loaded: Result<FileAnswers<'a, F>, String>,
+    loaded: Result<L, String>,
 }
 
 /// The files that were asked for, each loaded once, and how their addresses are answered.
@@ -29,7 +28,7 @@ struct AskedFile<'a, F: Drop> {
 pub struct AskedFiles<'a, F: Drop> {
     arguments: &'a Arguments<'a>,
     arena: &'a Bump,
-    files: Vec<AskedFile<'a, F>>,
+    files: Vec<AskedFile<FileAnswers<'a, F>>>,
     /// The number of each file, by its name in requests.
     numbers: BTreeMap<Vec<u8>, usize>,
 }
@@ -121,49 +120,89 @@ fn append_failure(
     }
 }
 
-/// Loads the file of this name, and reports it where it can't be loaded. Where memory runs out,
-/// nothing is known of the file.
-fn load_file<'a, F: FileExt + Drop>(
-    rt: &(impl Files<File = F> + Eprint + AllocGlobal),
-    arena: &'a Bump,
+/// Why a file can't be loaded, as text, which is reported. Where memory runs out, nothing is known
+/// of the file.
+fn refusal(
+    rt: &(impl Eprint + AllocGlobal),
     arguments: &Arguments<'_>,
-    text: String,
-) -> Result<AskedFile<'a, F>, AllocError> {
-    let loaded = match open(rt, arena, text.as_str(), arguments) {
-        Ok(loaded) => Ok(loaded),
-        Err(OpenError::Load(LoadFault::OutOfMemory)) => return Err(AllocError),
-        Err(error) => {
-            let reason = format!(in rt.alloc(); "{error}")?;
-            tell(rt, arguments, text.as_str(), reason.as_str());
-            Err(reason)
-        }
-    };
-    Ok(AskedFile { text, loaded })
+    subject: &str,
+    error: &OpenError,
+) -> Result<String, AllocError> {
+    if error.is_out_of_memory() {
+        return Err(AllocError);
+    }
+    let reason = format!(in rt.alloc(); "{error}")?;
+    tell(rt, arguments, subject, reason.as_str());
+    Ok(reason)
 }
 
-impl<'a, F: FileExt + Drop> AskedFile<'a, F> {
-    /// Appends the answer to a request.
-    fn append_named(
-        &mut self,
-        alloc: Global,
-        arguments: &Arguments<'_>,
-        request: LineRequest<'_>,
-        output: &mut Vec<u8>,
-    ) -> Result<(), AllocError> {
-        let LineRequest {
-            command,
-            address,
-            ..
-        } = request;
-        let asked = AskedAddress {
-            command,
-            file: self.text.as_str(),
-            address,
-        };
+/// Appends the file of this name, as it was opened. Where it couldn't be, that is reported.
+fn push_opened<L: Drop>(
+    rt: &(impl Eprint + AllocGlobal),
+    arguments: &Arguments<'_>,
+    files: &mut Vec<AskedFile<L>>,
+    text: String,
+    opened: Result<L, OpenError>,
+) -> Result<(), AllocError> {
+    let loaded = match opened {
+        Ok(loaded) => Ok(loaded),
+        Err(error) => Err(refusal(rt, arguments, text.as_str(), &error)?),
+    };
+    push(files, AskedFile { text, loaded })
+}
+
+impl<L: Drop> AskedFile<L> {
+    /// Its name, and what answers its addresses, or why it isn't loaded.
+    fn parts(&mut self) -> (&str, Result<&mut L, &str>) {
+        let text = self.text.as_str();
         match &mut self.loaded {
-            Ok(loaded) => loaded.append_asked(alloc, arguments, asked, output),
-            Err(reason) => append_failure(alloc, output, arguments, asked, reason),
+            Ok(loaded) => (text, Ok(loaded)),
+            Err(reason) => (text, Err(reason.as_str())),
         }
+    }
+
+    /// What answers its addresses, if it is loaded.
+    fn loaded(&self) -> Option<&L> {
+        match &self.loaded {
+            Ok(loaded) => Some(loaded),
+            Err(_) => None,
+        }
+    }
+
+    /// What answers its addresses, if it is loaded.
+    fn loaded_mut(&mut self) -> Option<&mut L> {
+        match &mut self.loaded {
+            Ok(loaded) => Some(loaded),
+            Err(_) => None,
+        }
+    }
+
+    /// Its name, and why it isn't loaded; `None` where it is.
+    fn refused(&self) -> Option<(&str, &str)> {
+        match &self.loaded {
+            Ok(_) => None,
+            Err(reason) => Some((self.text.as_str(), reason.as_str())),
+        }
+    }
+}
+
+/// Appends the answer to a request by a file.
+fn append_by_file<F: FileExt + Drop>(
+    alloc: Global,
+    arguments: &Arguments<'_>,
+    file: &mut AskedFile<FileAnswers<'_, F>>,
+    request: LineRequest<'_>,
+    output: &mut Vec<u8>,
+) -> Result<(), AllocError> {
+    let (text, loaded) = file.parts();
+    let asked = AskedAddress {
+        command: request.command,
+        file: text,
+        address: request.address,
+    };
+    match loaded {
+        Ok(loaded) => loaded.append_asked(alloc, arguments, asked, output),
+        Err(reason) => append_failure(alloc, output, arguments, asked, reason),
     }
 }
 
@@ -189,12 +228,20 @@ impl<'a, F: FileExt + Drop> AskedFiles<'a, F> {
             return Ok(*number);
         }
         let number = self.files.len();
-        let text = String::from_utf8_lossy(rt.alloc(), name)?;
-        let file = load_file(rt, self.arena, self.arguments, text)?;
-        self.files.push(file)?;
+        self.load(rt, String::from_utf8_lossy(rt.alloc(), name)?)?;
         let key = Vec::from_slice(rt.alloc(), name)?;
         self.numbers.insert(key, number)?;
         Ok(number)
+    }
+
+    /// Loads the file of this name, and reports it where it can't be loaded.
+    fn load(
+        &mut self,
+        rt: &(impl Files<File = F> + Eprint + AllocGlobal),
+        text: String,
+    ) -> Result<(), AllocError> {
+        let opened = open(rt, self.arena, text.as_str(), self.arguments);
+        push_opened(rt, self.arguments, &mut self.files, text, opened)
     }
 
     /// Loads the file of `--obj`, if it is given. Returns whether that is loaded. Where it isn't,
@@ -212,23 +259,22 @@ impl<'a, F: FileExt + Drop> AskedFiles<'a, F> {
             return Ok(true);
         };
         let number = self.ask(rt, object.as_bytes())?;
-        let Some(
-            AskedFile {
-                loaded: Err(reason),
-                text,
-            },
-        ) = self.files.get(number)
-        else {
+        let Some((text, reason)) = self.refused(number) else {
             return Ok(true);
         };
-        if arguments.texts.style != Style::Json {
-            return Ok(false);
+        if arguments.texts.style == Style::Json {
+            let mut texts = arguments.texts;
+            texts.in_array = false;
+            append_error(rt.alloc(), output, texts, text, 0, reason)?;
         }
-        let mut texts = arguments.texts;
-        texts.in_array = false;
-        match append_error(rt.alloc(), output, texts, text.as_str(), 0, reason.as_str()) {
-            Ok(()) => Ok(false),
-            Err(error) => Err(error),
+        Ok(false)
+    }
+
+    /// The name of the file with this number, and why it isn't loaded; `None` where it is.
+    fn refused(&self, number: usize) -> Option<(&str, &str)> {
+        match self.files.get(number) {
+            Some(file) => file.refused(),
+            None => None,
         }
     }
 
@@ -236,7 +282,7 @@ impl<'a, F: FileExt + Drop> AskedFiles<'a, F> {
     /// there is.
     pub fn tell_failed_read(&self, rt: &impl Eprint) -> bool {
         for file in &self.files {
-            if let Ok(loaded) = &file.loaded {
+            if let Some(loaded) = file.loaded() {
                 if let Some(reason) = loaded.failed_read() {
                     tell_error(rt, self.arguments, file.text.as_str(), reason);
                     return true;
@@ -277,7 +323,7 @@ impl<'a, F: FileExt + Drop> AskedFiles<'a, F> {
         let number = self.ask(rt, name)?;
         match self.files.get_mut(number) {
             None => Ok(()),
-            Some(file) => file.append_named(rt.alloc(), self.arguments, request, output),
+            Some(file) => append_by_file(rt.alloc(), self.arguments, file, request, output),
         }
     }
 
@@ -314,27 +360,27 @@ impl<'a, F: FileExt + Drop> AskedFiles<'a, F> {
             return Ok(false);
         };
         let number = self.ask(rt, name)?;
-        match (request.command, self.files.get_mut(number)) {
-            (
-                Command::Code,
-                Some(
-                    AskedFile {
-                        loaded: Ok(loaded),
-                        ..
-                    },
-                ),
-            ) => {
-                loaded.expect(arguments, request.address)?;
-            }
-            _ => {}
+        if request.command == Command::Code {
+            self.expect_address(number, request.address)?;
         }
         Ok(true)
+    }
+
+    /// Notes the module that holds an address of the file with this number, if it is loaded.
+    fn expect_address(&mut self, number: usize, address: u64) -> Result<(), AllocError> {
+        let Some(file) = self.files.get_mut(number) else {
+            return Ok(());
+        };
+        match file.loaded_mut() {
+            Some(loaded) => loaded.expect(self.arguments, address),
+            None => Ok(()),
+        }
     }
 
     /// Reads the modules that were noted of each file at once.
     pub fn read_expected(&mut self, alloc: Global) {
         for file in &mut self.files {
-            if let Ok(loaded) = &mut file.loaded {
+            if let Some(loaded) = file.loaded_mut() {
                 loaded.read_expected(alloc);
             }
         }

@@ -76,6 +76,15 @@ pub fn frames_or_none<'a>(
 }
 
 impl<'a> AddressTexts<'a> {
+    /// What names the functions of a file, and no columns that are read.
+    fn new<F: Drop>(alloc: Global, file: &FileSymbolizer<'a, F>) -> AddressTexts<'a> {
+        let held = file.held();
+        AddressTexts {
+            names: FunctionNames::new(held, OrderedMap::new(file.address_map())),
+            columns: Columns::new(alloc, held),
+        }
+    }
+
     /// The name of the function at an address, by the names that are asked for.
     fn name_of(
         &mut self,
@@ -142,6 +151,23 @@ impl<'a> AddressTexts<'a> {
     fn append(
         &mut self,
         alloc: Global,
+        context: &mut FileContext<'a>,
+        arguments: &Arguments<'_>,
+        asked: (AskedAddress<'_>, u32),
+        output: &mut Vec<u8>,
+    ) -> Result<(), AllocError>
+        ensures { lasting context.new ≡ lasting context.old }
+    {
+        match self.known_at(alloc, context, asked.1) {
+            Ok(known) => self.append_known(alloc, arguments, asked, &known, output),
+            Err(error) => Err(error),
+        }
+    }
+
+    /// Appends the answer for an address, by its RVA and what is known of it.
+    fn append_known(
+        &mut self,
+        alloc: Global,
         arguments: &Arguments<'_>,
         (asked, rva): (AskedAddress<'_>, u32),
         known: &KnownAddress<'a>,
@@ -165,15 +191,11 @@ impl<'a> AddressTexts<'a> {
 impl<'a, F: FileExt + Drop> FileAnswers<'a, F> {
     /// The answers of a file that is opened, whose image wants to be loaded at this base.
     pub fn new(alloc: Global, file: FileSymbolizer<'a, F>, image_base: u64) -> FileAnswers<'a, F> {
-        let held = file.held();
-        let map = OrderedMap::new(file.address_map());
+        let texts = AddressTexts::new(alloc, &file);
         FileAnswers {
             image_base,
             file,
-            texts: AddressTexts {
-                names: FunctionNames::new(held, map),
-                columns: Columns::new(alloc, held),
-            },
+            texts,
             expected: Vec::new(alloc),
             failed: None,
         }
@@ -191,14 +213,12 @@ impl<'a, F: FileExt + Drop> FileAnswers<'a, F> {
         let Some(mut context) = self.file.take_context() else {
             return Err(AllocError);
         };
-        let known = self.texts.known_at(alloc, &mut context, rva);
+        let asked = (asked, rva);
+        let appended = self
+            .texts
+            .append(alloc, &mut context, arguments, asked, output);
         self.file.put_context(context);
-        match known {
-            Ok(known) => self
-                .texts
-                .append(alloc, arguments, (asked, rva), &known, output),
-            Err(error) => Err(error),
-        }
+        appended
     }
 
     /// Reads what was asked for and is missing, unless reading the file failed before; returns

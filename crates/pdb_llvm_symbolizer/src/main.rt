@@ -56,16 +56,20 @@ fn answer<'w>(
 ) -> Result<ExitCode> {
     choices.read(rt.alloc(), given)?;
     if !choices.errors.is_empty() {
-        return refuse(rt, choices);
+        refuse(rt, choices)
+    } else if choices.help {
+        finish(print!(rt; "{HELP}"))
+    } else if choices.version {
+        finish(println!(rt; "pdb_llvm_symbolizer {VERSION}"))
+    } else {
+        answer_choices(rt, given.program.as_str(), choices)
     }
-    if choices.help {
-        return finish(print!(rt; "{HELP}"));
-    }
-    if choices.version {
-        return finish(println!(rt; "pdb_llvm_symbolizer {VERSION}"));
-    }
+}
+
+/// Answers what a program of this name is asked by choices. Returns the status.
+fn answer_choices(rt: &HostRuntime, program: &str, choices: &Choices<'_>) -> Result<ExitCode> {
     tell_hints(rt, choices);
-    match read_arguments(given.program.as_str(), choices) {
+    match read_arguments(program, choices) {
         Ok(arguments) => answer_arguments(rt, &arguments),
         Err(refusal) => {
             eprintln!(rt; "{refusal}")?;
@@ -108,10 +112,15 @@ fn finish(written: io::Result<()>) -> Result<ExitCode> {
 fn tell_hints(rt: &impl Eprint, choices: &Choices<'_>) {
     for hint in &choices.dsym_hints {
         if !hint.ends_with(".dSYM") {
-            let why = "must have the '.dSYM' extension";
-            let _ = eprintln!(rt; "Warning: invalid dSYM hint: \"{hint}\" ({why}).");
+            tell_hint(rt, *hint);
         }
     }
+}
+
+/// Warns of a folder; a write that fails is ignored.
+fn tell_hint(rt: &impl Eprint, hint: &str) {
+    let why = "must have the '.dSYM' extension";
+    let _ = eprintln!(rt; "Warning: invalid dSYM hint: \"{hint}\" ({why}).");
 }
 
 /// Why not all answers are written.

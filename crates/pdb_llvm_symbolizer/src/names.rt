@@ -23,6 +23,11 @@ pub struct FunctionNames<'a> {
     is_x86: bool,
 }
 
+/// Whether a machine is of 32-bit x86.
+fn is_x86(machine: MachineType) -> bool {
+    matches!(machine, MachineType::Other(X86))
+}
+
 /// The name of a function, empty where there is none.
 fn stored_name(function: &Option<Function>) -> &[u8] {
     match function {
@@ -40,11 +45,10 @@ impl<'a> FunctionNames<'a> {
     /// What names the functions of a file that has this address map.
     pub fn new(held: &'a Held, map: OrderedMap<'a>) -> FunctionNames<'a> {
         let sections = held.address_map().image_section_headers();
-        let machine = held.debug_information().machine_type();
         FunctionNames {
             map,
             publics: Publics::new(held.symbol_records(), sections),
-            is_x86: machine == MachineType::Other(X86),
+            is_x86: is_x86(held.debug_information().machine_type()),
         }
     }
 
