@@ -45,18 +45,23 @@ impl<'c> fmt::Display for Refusal<'c> {
     fn fmt<W: fmt::Write>(&self, f: &mut fmt::Formatter<W>) -> fmt::Result {
         match self {
             Refusal::Number(name, value) => {
-                write!(
-                    f,
-                    "{name}=: expected a non-negative integer, but got '{value}'"
-                )
+                write_expected(f, *name, "a non-negative integer", *value)
             }
             Refusal::Markup => f.write_str("error: --filter-markup isn't supported"),
             Refusal::TwoObjects => f.write_str("error: cannot specify both --build-id and --obj"),
-            Refusal::BuildId(hash) => {
-                write!(f, "--build-id=: expected a build ID, but got '{hash}'")
-            }
+            Refusal::BuildId(hash) => write_expected(f, "--build-id", "a build ID", *hash),
         }
     }
+}
+
+/// Writes that the value of an option isn't what is wanted.
+fn write_expected<W: fmt::Write>(
+    f: &mut fmt::Formatter<W>,
+    option: &str,
+    wanted: &str,
+    value: &str,
+) -> fmt::Result {
+    write!(f, "{option}=: expected {wanted}, but got '{value}'")
 }
 
 /// The number of an option; 0 where it isn't given.

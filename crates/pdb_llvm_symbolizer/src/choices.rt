@@ -203,8 +203,10 @@ impl<'w> Choices<'w> {
             OptionWord::Input => push(&mut self.inputs, word),
             OptionWord::Joined(setting) => self.set(setting, after_equals(name)),
             OptionWord::JoinedFile => self.set(Setting::Object, after_first(name)),
-            OptionWord::Unknown => self.refuse(name),
-            OptionWord::UnknownLetter => self.refuse(first_letter(name)),
+            OptionWord::Unknown => push(&mut self.errors, WordFault::Unknown(name)),
+            OptionWord::UnknownLetter => {
+                push(&mut self.errors, WordFault::Unknown(first_letter(name)))
+            }
             OptionWord::Flag(flag) | OptionWord::Letter(flag) => {
                 self.choose(flag);
                 Ok(())
@@ -214,11 +216,6 @@ impl<'w> Choices<'w> {
                 Ok(())
             }
         }
-    }
-
-    /// Reports that no option has this name, or this letter.
-    fn refuse(&mut self, name: &'w str) -> Result<(), AllocError> {
-        push(&mut self.errors, WordFault::Unknown(name))
     }
 
     /// Reads a word: an option, an input, or letters that stand together.
@@ -238,22 +235,6 @@ impl<'w> Choices<'w> {
         Ok(())
     }
 
-    /// Takes a word: the value of the option before it, if that wants one.
-    fn take_word(&mut self, alloc: Global, word: &'w str) -> Result<(), AllocError> {
-        match self.wanting.take() {
-            Some((setting, _)) => self.set(setting, word),
-            None => self.read_word(alloc, word),
-        }
-    }
-
-    /// Reports before all else that the last word lacks its value, if it does.
-    fn refuse_wanting(&mut self) -> Result<(), AllocError> {
-        match self.wanting {
-            Some((_, word)) => push_first(&mut self.errors, WordFault::NoValue(word)),
-            None => Ok(()),
-        }
-    }
-
     /// Takes the choices of the words that the program is given, and the folders of the search
     /// path after those of the words.
     ///
@@ -261,9 +242,16 @@ impl<'w> Choices<'w> {
     /// Where memory ran out.
     pub fn read(&mut self, alloc: Global, given: &'w GivenWords) -> Result<(), AllocError> {
         for word in &given.words {
-            self.take_word(alloc, word.as_str())?;
+            let read = match self.wanting.take() {
+                Some((setting, _)) => self.set(setting, word.as_str()),
+                None => self.read_word(alloc, word.as_str()),
+            };
+            read?;
         }
-        self.refuse_wanting()?;
+        // That the last word lacks its value is reported before all else.
+        if let Some((_, word)) = self.wanting {
+            push_first(&mut self.errors, WordFault::NoValue(word))?;
+        }
         push_search_path(&mut self.stores, given.search_path.as_str())
     }
 }

@@ -14,6 +14,16 @@ pub struct Columns<'a> {
     programs: BTreeMap<usize, Option<LineProgram<'a>>>,
 }
 
+/// Keeps what was read of a module, by its number.
+fn keep<T: Drop>(
+    kept: &mut BTreeMap<usize, T>,
+    number: usize,
+    read: Result<T, AllocError>,
+) -> Result<(), AllocError> {
+    kept.insert(number, read?)?;
+    Ok(())
+}
+
 impl<'a> Columns<'a> {
     /// The columns of a file's lines, of which none is read.
     pub fn new(alloc: Global, held: &'a Held) -> Columns<'a> {
@@ -27,14 +37,11 @@ impl<'a> Columns<'a> {
     fn module(&self, number: usize) -> Option<Module<'a>> {
         let mut modules = self.held.debug_information().modules();
         for _ in 0..number {
-            let Ok(Some(_)) = modules.next() else {
+            if !matches!(modules.next(), Ok(Some(_))) {
                 return None;
-            };
+            }
         }
-        match modules.next() {
-            Ok(module) => module,
-            Err(_) => None,
-        }
+        modules.next().unwrap_or(None)
     }
 
     /// The lines of a module, if they have columns and can be read.
@@ -73,8 +80,8 @@ impl<'a> Columns<'a> {
         offset: u32,
     ) -> Result<u32, AllocError> {
         if !self.programs.contains_key(&number) {
-            let program = self.read_program(alloc, modules, number)?;
-            self.programs.insert(number, program)?;
+            let program = self.read_program(alloc, modules, number);
+            keep(&mut self.programs, number, program)?;
         }
         let Some(Some(program)) = self.programs.get(&number) else {
             return Ok(0);

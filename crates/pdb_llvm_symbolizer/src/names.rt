@@ -23,9 +23,12 @@ pub struct FunctionNames<'a> {
     is_x86: bool,
 }
 
-/// Whether a machine is of 32-bit x86.
-fn is_x86(machine: MachineType) -> bool {
-    matches!(machine, MachineType::Other(X86))
+/// Whether a file is of 32-bit x86.
+fn is_x86(held: &Held) -> bool {
+    matches!(
+        held.debug_information().machine_type(),
+        MachineType::Other(X86)
+    )
 }
 
 /// The name of a function, empty where there is none.
@@ -48,7 +51,7 @@ impl<'a> FunctionNames<'a> {
         FunctionNames {
             map,
             publics: Publics::new(held.symbol_records(), sections),
-            is_x86: is_x86(held.debug_information().machine_type()),
+            is_x86: is_x86(held),
         }
     }
 
