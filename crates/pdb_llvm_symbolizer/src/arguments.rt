@@ -3,7 +3,7 @@
 use crate::choices::{Choices, FunctionName};
 use crate::given_words::is_addr2line;
 use pdb_llvm_protocol::{
-    Asked, LineForm, ReportOptions, Style, TextOptions, are_hexadecimal, parse_number,
+    Asked, LineForm, ReportOptions, Style, TextOptions, are_hexadecimal, parse_number, rva_of,
 };
 use std::fmt;
 
@@ -26,6 +26,13 @@ pub struct Arguments<'c> {
     pub texts: TextOptions,
     /// Which frames are reported.
     pub frames: ReportOptions,
+}
+
+impl<'c> Arguments<'c> {
+    /// The RVA of an address that is asked for, in an image that wants to be loaded at this base.
+    pub fn rva_of(&self, address: u64, image_base: u64) -> Option<u32> {
+        rva_of(address, image_base, self.adjust, self.choices.relative)
+    }
 }
 
 /// The cause for which choices that can be read aren't taken. It prints as it is reported.

@@ -2,8 +2,6 @@
 
 use crate::arguments::Arguments;
 use crate::choices::{Choices, push};
-use crate::database::open;
-use crate::loaded::{AskedAddress, FileAnswers};
 use crate::open_error::OpenError;
 use bumpalo::Bump;
 use pdb_llvm_protocol::{
@@ -12,8 +10,55 @@ use pdb_llvm_protocol::{
 };
 use std::alloc::{AllocError, Global};
 use std::collections::BTreeMap;
-use std::os::unix::fs::FileExt;
-use std::rt::Files;
+
+/// An address of a file, as it is asked for.
+#[derive(Clone, Copy)]
+pub struct AskedAddress<'n> {
+    /// What is asked about it.
+    pub command: Command,
+    /// The file's name.
+    pub file: &'n str,
+    /// The address.
+    pub address: u64,
+}
+
+/// A file that is loaded through a system of type `S`, and answers its addresses.
+pub trait LoadedFile<'a, S>: Drop {
+    /// Loads the file of this name into an arena.
+    ///
+    /// # Errors
+    /// Why it can't be loaded.
+    fn load(
+        system: &S,
+        arena: &'a Bump,
+        name: &str,
+        arguments: &Arguments<'_>,
+    ) -> Result<Self, OpenError>;
+
+    /// Notes the module that holds an address which is asked for next.
+    ///
+    /// # Errors
+    /// Where memory ran out.
+    fn expect(&mut self, arguments: &Arguments<'_>, address: u64) -> Result<(), AllocError>;
+
+    /// Reads the modules that were noted, as far as they are missing, at once.
+    fn read_expected(&mut self, alloc: Global);
+
+    /// Why reading the file failed after it was loaded; `None` where it didn't, or memory ran out.
+    fn failed_read(&self) -> Option<&'static str>;
+
+    /// Appends the answer to a request.
+    ///
+    /// # Errors
+    /// Where memory ran out, or reading the file failed, which `failed_read` tells then.
+    fn append_asked(
+        &mut self,
+        alloc: Global,
+        arguments: &Arguments<'_>,
+        asked: AskedAddress<'_>,
+        output: &mut Vec<u8>,
+    ) -> Result<(), AllocError>;
+}
 
 /// A file that was asked for: its name as text, and what answers its addresses, or why it isn't
 /// loaded.
@@ -25,10 +70,12 @@ struct AskedFile<L: Drop> {
 
 /// The files that were asked for, each loaded once, and how their addresses are answered.
 #[derive(Drop)]
-pub struct AskedFiles<'a, F: Drop> {
+pub struct AskedFiles<'a, S: Eprint + AllocGlobal, L: Drop> {
+    /// What opens files and writes errors.
+    pub system: &'a S,
     arguments: &'a Arguments<'a>,
     arena: &'a Bump,
-    files: Vec<AskedFile<FileAnswers<'a, F>>>,
+    files: Vec<AskedFile<L>>,
     /// The number of each file, by its name in requests.
     numbers: BTreeMap<Vec<u8>, usize>,
 }
@@ -187,10 +234,10 @@ impl<L: Drop> AskedFile<L> {
 }
 
 /// Appends the answer to a request by a file.
-fn append_by_file<F: FileExt + Drop>(
-    alloc: Global,
+fn append_by_file<'a, S: AllocGlobal, L: LoadedFile<'a, S>>(
+    system: &S,
     arguments: &Arguments<'_>,
-    file: &mut AskedFile<FileAnswers<'_, F>>,
+    file: &mut AskedFile<L>,
     request: LineRequest<'_>,
     output: &mut Vec<u8>,
 ) -> Result<(), AllocError> {
@@ -201,47 +248,64 @@ fn append_by_file<F: FileExt + Drop>(
         address: request.address,
     };
     match loaded {
-        Ok(loaded) => loaded.append_asked(alloc, arguments, asked, output),
-        Err(reason) => append_failure(alloc, output, arguments, asked, reason),
+        Ok(loaded) => loaded.append_asked(system.alloc(), arguments, asked, output),
+        Err(reason) => append_failure(system.alloc(), output, arguments, asked, reason),
     }
 }
 
-impl<'a, F: FileExt + Drop> AskedFiles<'a, F> {
+/// Appends the answer to a request for the object that has this build ID, which no PDB has.
+fn append_build_id(
+    rt: &(impl Eprint + AllocGlobal),
+    arguments: &Arguments<'_>,
+    hash: &[u8],
+    request: LineRequest<'_>,
+    output: &mut Vec<u8>,
+) -> Result<(), AllocError> {
+    let mut hash = String::from_utf8_lossy(rt.alloc(), hash)?;
+    hash.make_ascii_uppercase();
+    let asked = AskedAddress {
+        command: request.command,
+        file: hash.as_str(),
+        address: request.address,
+    };
+    let reason = "could not find build ID";
+    tell(rt, arguments, asked.file, reason);
+    append_failure(rt.alloc(), output, arguments, asked, reason)
+}
+
+impl<'a, S: Eprint + AllocGlobal, L: LoadedFile<'a, S>> AskedFiles<'a, S, L> {
     /// No files, which are asked as the arguments say.
-    pub fn new(alloc: Global, arguments: &'a Arguments<'a>, arena: &'a Bump) -> AskedFiles<'a, F> {
+    pub fn new(
+        system: &'a S,
+        arguments: &'a Arguments<'a>,
+        arena: &'a Bump,
+    ) -> AskedFiles<'a, S, L> {
         AskedFiles {
+            system,
             arguments,
             arena,
-            files: Vec::new(alloc),
-            numbers: BTreeMap::new(alloc),
+            files: Vec::new(system.alloc()),
+            numbers: BTreeMap::new(system.alloc()),
         }
     }
 
     /// Loads a file unless it was asked for before, reports it where it can't be loaded, and
     /// returns its number.
-    fn ask(
-        &mut self,
-        rt: &(impl Files<File = F> + Eprint + AllocGlobal),
-        name: &[u8],
-    ) -> Result<usize, AllocError> {
+    fn ask(&mut self, name: &[u8]) -> Result<usize, AllocError> {
         if let Some(number) = self.numbers.get(name) {
             return Ok(*number);
         }
         let number = self.files.len();
-        self.load(rt, String::from_utf8_lossy(rt.alloc(), name)?)?;
-        let key = Vec::from_slice(rt.alloc(), name)?;
+        self.load(String::from_utf8_lossy(self.system.alloc(), name)?)?;
+        let key = Vec::from_slice(self.system.alloc(), name)?;
         self.numbers.insert(key, number)?;
         Ok(number)
     }
 
     /// Loads the file of this name, and reports it where it can't be loaded.
-    fn load(
-        &mut self,
-        rt: &(impl Files<File = F> + Eprint + AllocGlobal),
-        text: String,
-    ) -> Result<(), AllocError> {
-        let opened = open(rt, self.arena, text.as_str(), self.arguments);
-        push_opened(rt, self.arguments, &mut self.files, text, opened)
+    fn load(&mut self, text: String) -> Result<(), AllocError> {
+        let opened = L::load(self.system, self.arena, text.as_str(), self.arguments);
+        push_opened(self.system, self.arguments, &mut self.files, text, opened)
     }
 
     /// Loads the file of `--obj`, if it is given. Returns whether that is loaded. Where it isn't,
@@ -249,23 +313,19 @@ impl<'a, F: FileExt + Drop> AskedFiles<'a, F> {
     ///
     /// # Errors
     /// Where memory ran out.
-    pub fn ask_object(
-        &mut self,
-        rt: &(impl Files<File = F> + Eprint + AllocGlobal),
-        output: &mut Vec<u8>,
-    ) -> Result<bool, AllocError> {
+    pub fn ask_object(&mut self, output: &mut Vec<u8>) -> Result<bool, AllocError> {
         let arguments = self.arguments;
         let Some(object) = arguments.choices.object else {
             return Ok(true);
         };
-        let number = self.ask(rt, object.as_bytes())?;
+        let number = self.ask(object.as_bytes())?;
         let Some((text, reason)) = self.refused(number) else {
             return Ok(true);
         };
         if arguments.texts.style == Style::Json {
             let mut texts = arguments.texts;
             texts.in_array = false;
-            append_error(rt.alloc(), output, texts, text, 0, reason)?;
+            append_error(self.system.alloc(), output, texts, text, 0, reason)?;
         }
         Ok(false)
     }
@@ -280,11 +340,11 @@ impl<'a, F: FileExt + Drop> AskedFiles<'a, F> {
 
     /// Reports the file that couldn't be read after it was loaded, if there is one. Returns whether
     /// there is.
-    pub fn tell_failed_read(&self, rt: &impl Eprint) -> bool {
+    pub fn tell_failed_read(&self) -> bool {
         for file in &self.files {
             if let Some(loaded) = file.loaded() {
                 if let Some(reason) = loaded.failed_read() {
-                    tell_error(rt, self.arguments, file.text.as_str(), reason);
+                    tell_error(self.system, self.arguments, file.text.as_str(), reason);
                     return true;
                 }
             }
@@ -292,51 +352,35 @@ impl<'a, F: FileExt + Drop> AskedFiles<'a, F> {
         false
     }
 
-    /// Appends the answer to a request for the object that has this build ID, which no PDB has.
-    fn append_build_id(
-        &self,
-        rt: &(impl Eprint + AllocGlobal),
-        hash: &[u8],
-        request: LineRequest<'_>,
-        output: &mut Vec<u8>,
-    ) -> Result<(), AllocError> {
-        let mut hash = String::from_utf8_lossy(rt.alloc(), hash)?;
-        hash.make_ascii_uppercase();
-        let asked = AskedAddress {
-            command: request.command,
-            file: hash.as_str(),
-            address: request.address,
-        };
-        let reason = "could not find build ID";
-        tell(rt, self.arguments, asked.file, reason);
-        append_failure(rt.alloc(), output, self.arguments, asked, reason)
-    }
-
     /// Appends the answer to a request by the file of this name.
     fn append_by(
         &mut self,
-        rt: &(impl Files<File = F> + Eprint + AllocGlobal),
         name: &[u8],
         request: LineRequest<'_>,
         output: &mut Vec<u8>,
     ) -> Result<(), AllocError> {
-        let number = self.ask(rt, name)?;
+        let number = self.ask(name)?;
         match self.files.get_mut(number) {
             None => Ok(()),
-            Some(file) => append_by_file(rt.alloc(), self.arguments, file, request, output),
+            Some(file) => append_by_file(self.system, self.arguments, file, request, output),
         }
     }
 
     /// Appends the answer to a request.
     fn append_request(
         &mut self,
-        rt: &(impl Files<File = F> + Eprint + AllocGlobal),
         request: LineRequest<'_>,
         output: &mut Vec<u8>,
     ) -> Result<(), AllocError> {
         match subject_of(self.arguments.choices, request.file) {
-            Subject::File(name) => self.append_by(rt, name, request, output),
-            Subject::BuildId(hash) => self.append_build_id(rt, hash, request, output),
+            Subject::File(name) => self.append_by(name, request, output),
+            Subject::BuildId(hash) => append_build_id(
+                self.system,
+                self.arguments,
+                hash,
+                request,
+                output,
+            ),
         }
     }
 
@@ -346,11 +390,7 @@ impl<'a, F: FileExt + Drop> AskedFiles<'a, F> {
     ///
     /// # Errors
     /// Where memory ran out.
-    pub fn expect(
-        &mut self,
-        rt: &(impl Files<File = F> + Eprint + AllocGlobal),
-        line: &[u8],
-    ) -> Result<bool, AllocError> {
+    pub fn expect(&mut self, line: &[u8]) -> Result<bool, AllocError> {
         let arguments = self.arguments;
         let request = match read_request(line, arguments.form) {
             Ok(request) => request,
@@ -359,7 +399,7 @@ impl<'a, F: FileExt + Drop> AskedFiles<'a, F> {
         let Subject::File(name) = subject_of(arguments.choices, request.file) else {
             return Ok(false);
         };
-        let number = self.ask(rt, name)?;
+        let number = self.ask(name)?;
         if request.command == Command::Code {
             self.expect_address(number, request.address)?;
         }
@@ -378,7 +418,8 @@ impl<'a, F: FileExt + Drop> AskedFiles<'a, F> {
     }
 
     /// Reads the modules that were noted of each file at once.
-    pub fn read_expected(&mut self, alloc: Global) {
+    pub fn read_expected(&mut self) {
+        let alloc = self.system.alloc();
         for file in &mut self.files {
             if let Some(loaded) = file.loaded_mut() {
                 loaded.read_expected(alloc);
@@ -390,23 +431,25 @@ impl<'a, F: FileExt + Drop> AskedFiles<'a, F> {
     ///
     /// # Errors
     /// Where memory ran out, or reading a file failed after it was loaded.
-    pub fn append_line(
-        &mut self,
-        rt: &(impl Files<File = F> + Eprint + AllocGlobal),
-        line: &[u8],
-        output: &mut Vec<u8>,
-    ) -> Result<(), AllocError> {
+    pub fn append_line(&mut self, line: &[u8], output: &mut Vec<u8>) -> Result<(), AllocError> {
         let arguments = self.arguments;
         match read_request(line, arguments.form) {
-            Ok(request) => self.append_request(rt, request, output),
+            Ok(request) => self.append_request(request, output),
             Err(fault) => {
-                tell_fault(rt, arguments, line, fault)?;
+                tell_fault(self.system, arguments, line, fault)?;
                 let file = match (arguments.choices.object, fault) {
                     (None, _) | (_, RequestFault::EmptyLine) => "",
                     (Some(object), _) => object,
                 };
                 let unknown = [ReportedFrame::unknown()];
-                append_frames(rt.alloc(), output, arguments.texts, file, None, &unknown)
+                append_frames(
+                    self.system.alloc(),
+                    output,
+                    arguments.texts,
+                    file,
+                    None,
+                    &unknown,
+                )
             }
         }
     }

@@ -3,33 +3,29 @@
 ghost use Rattle.std.specs.Prelude.{[]};
 
 use crate::arguments::Arguments;
-use crate::files::AskedFiles;
+use crate::files::{AskedFiles, LoadedFile};
 use pdb_engine::{
     Answers, InputFault, LineStart, LongStart, Request, Watched, write_all, write_fault,
 };
 use pdb_llvm_protocol::{Style, TextOptions};
 use std::alloc::{AllocError, Global};
 use std::io::Write;
-use std::os::unix::fs::FileExt;
-use std::rt::Files;
 
 /// What answers the requests of a run: its files, and room for a text.
 #[derive(Drop)]
-pub struct RequestAnswers<'a, S: Files<File = F> + Eprint + AllocGlobal, F: Drop> {
-    /// What opens files and writes errors.
-    pub system: &'a S,
+pub struct RequestAnswers<'a, S: Eprint + AllocGlobal, L: Drop> {
     /// The files that were asked for.
-    pub files: AskedFiles<'a, F>,
+    pub files: AskedFiles<'a, S, L>,
     /// Room in which each text is made.
     pub room: Vec<u8>,
     /// Whether memory ran out while lines were made ready for. Then none is answered.
     pub is_short: bool,
 }
 
-impl<'a, S, F> Answers for RequestAnswers<'a, S, F>
+impl<'a, S, L> Answers for RequestAnswers<'a, S, L>
 where
-    S: Files<File = F> + Eprint + AllocGlobal,
-    F: FileExt + Drop,
+    S: Eprint + AllocGlobal,
+    L: LoadedFile<'a, S>,
 {
     type Start = LongStart;
 
@@ -50,7 +46,7 @@ where
                 break;
             }
         }
-        self.files.read_expected(self.system.alloc());
+        self.files.read_expected();
     }
 
     fn answer(
@@ -63,7 +59,7 @@ where
             return Err(AllocError);
         }
         self.room.clear();
-        self.files.append_line(self.system, line, &mut self.room)?;
+        self.files.append_line(line, &mut self.room)?;
         output.extend_from_slice(&self.room)
     }
 }
@@ -97,14 +93,14 @@ fn marks_of(texts: TextOptions) -> Marks {
     }
 }
 
-impl<'a, S, F> RequestAnswers<'a, S, F>
+impl<'a, S, L> RequestAnswers<'a, S, L>
 where
-    S: Files<File = F> + Eprint + AllocGlobal,
-    F: FileExt + Drop,
+    S: Eprint + AllocGlobal,
+    L: LoadedFile<'a, S>,
 {
     /// Makes ready for a line, and returns whether that may be done for lines after it, too.
     fn expects(&mut self, line: &[u8]) -> bool {
-        match self.files.expect(self.system, line) {
+        match self.files.expect(line) {
             Ok(goes_on) => goes_on,
             Err(_) => {
                 self.is_short = true;
@@ -120,7 +116,7 @@ where
                 break;
             }
         }
-        self.files.read_expected(self.system.alloc());
+        self.files.read_expected();
     }
 
     /// Makes the answer to an address among the arguments, with the mark before it.
@@ -130,8 +126,7 @@ where
         }
         self.room.clear();
         self.room.extend_from_slice(mark.as_bytes())?;
-        self.files
-            .append_line(self.system, address.as_bytes(), &mut self.room)
+        self.files.append_line(address.as_bytes(), &mut self.room)
     }
 }
 
@@ -155,8 +150,8 @@ pub fn write_made<W: Write>(
 ///
 /// # Errors
 /// `OutOfMemory`, or that the writer failed.
-pub fn write_answers<S: Files<File = F> + Eprint + AllocGlobal, F: FileExt + Drop, W: Write>(
-    answers: &mut RequestAnswers<'_, S, F>,
+pub fn write_answers<'a, S: Eprint + AllocGlobal, L: LoadedFile<'a, S>, W: Write>(
+    answers: &mut RequestAnswers<'a, S, L>,
     arguments: &Arguments<'_>,
     writer: &mut Watched<W>,
 ) -> Result<(), InputFault> {

@@ -6,19 +6,25 @@ ghost use Rattle.pdb_addr2line.specs.Context.{lasting};
 use crate::arguments::Arguments;
 use crate::choices::FunctionName;
 use crate::columns::Columns;
+use crate::database::open;
+use crate::files::{AskedAddress, LoadedFile};
 use crate::first_row::{FirstRow, with_first_row};
 use crate::names::FunctionNames;
-use crate::open_error::reason;
+use crate::open_error::{OpenError, reason};
 use crate::ordered_map::OrderedMap;
-use pdb_addr2line::{Error, FileContext, FileSymbolizer, Function, SharedFunctionFrames, TRIES};
+use bumpalo::Bump;
+use pdb_addr2line::{
+    Error, FileContext, FileSymbolizer, Function, Held, SharedFunctionFrames, TRIES,
+};
 use pdb_llvm_protocol::{
-    Command, OwnFrame, ReportedFrame, append_frames, append_no_data, append_no_locals,
-    report_frames, rva_of,
+    Command, OwnFrame, ReportedFrame, TextOptions, append_frames, append_no_data, append_no_locals,
+    report_frames,
 };
 use std::alloc::{AllocError, Global};
 use std::io::{self, ErrorKind};
 use std::mem;
 use std::os::unix::fs::FileExt;
+use std::rt::Files;
 
 /// What answers the addresses of a file.
 #[derive(Drop)]
@@ -37,17 +43,6 @@ pub struct FileAnswers<'a, F: Drop> {
 struct AddressTexts<'a> {
     names: FunctionNames<'a>,
     columns: Columns<'a>,
-}
-
-/// An address of a file, as it is asked for.
-#[derive(Clone, Copy)]
-pub struct AskedAddress<'n> {
-    /// What is asked about it.
-    pub command: Command,
-    /// The file's name.
-    pub file: &'n str,
-    /// The address.
-    pub address: u64,
 }
 
 /// The facts that a context has of an address: its frames, its function, and the function's first
@@ -75,12 +70,35 @@ pub fn frames_or_none<'a>(
     }
 }
 
+/// Appends the answer for an address that isn't of the file's image.
+fn append_no_function(
+    alloc: Global,
+    texts: TextOptions,
+    asked: AskedAddress<'_>,
+    output: &mut Vec<u8>,
+) -> Result<(), AllocError> {
+    let no_function = ReportedFrame {
+        function: Some(b""),
+        file: None,
+        line: 0,
+        column: 0,
+    };
+    let frames = [no_function];
+    append_frames(
+        alloc,
+        output,
+        texts,
+        asked.file,
+        Some(asked.address),
+        &frames,
+    )
+}
+
 impl<'a> AddressTexts<'a> {
-    /// What names the functions of a file, and no columns that are read.
-    fn new<F: Drop>(alloc: Global, file: &FileSymbolizer<'a, F>) -> AddressTexts<'a> {
-        let held = file.held();
+    /// What names the functions of a file that has this address map, and no columns that are read.
+    fn new(alloc: Global, held: &'a Held, map: OrderedMap<'a>) -> AddressTexts<'a> {
         AddressTexts {
-            names: FunctionNames::new(held, OrderedMap::new(file.address_map())),
+            names: FunctionNames::new(held, map),
             columns: Columns::new(alloc, held),
         }
     }
@@ -191,7 +209,8 @@ impl<'a> AddressTexts<'a> {
 impl<'a, F: FileExt + Drop> FileAnswers<'a, F> {
     /// The answers of a file that is opened, whose image wants to be loaded at this base.
     pub fn new(alloc: Global, file: FileSymbolizer<'a, F>, image_base: u64) -> FileAnswers<'a, F> {
-        let texts = AddressTexts::new(alloc, &file);
+        let map = OrderedMap::new(file.address_map());
+        let texts = AddressTexts::new(alloc, file.held(), map);
         FileAnswers {
             image_base,
             file,
@@ -236,38 +255,6 @@ impl<'a, F: FileExt + Drop> FileAnswers<'a, F> {
         }
     }
 
-    /// Notes the module that holds an address which is asked for next.
-    ///
-    /// # Errors
-    /// Where memory ran out.
-    pub fn expect(&mut self, arguments: &Arguments<'_>, address: u64) -> Result<(), AllocError> {
-        let (adjust, relative) = (arguments.adjust, arguments.choices.relative);
-        let Some(rva) = rva_of(address, self.image_base, adjust, relative) else {
-            return Ok(());
-        };
-        if let Some(number) = self.file.module_at(rva) {
-            self.expected.push(number)?;
-        }
-        Ok(())
-    }
-
-    /// Reads the modules that were noted, as far as they are missing, at once.
-    pub fn read_expected(&mut self, alloc: Global) {
-        let numbers = mem::replace(&mut self.expected, Vec::new(alloc));
-        if self.file.reads_exactly() && !numbers.is_empty() {
-            self.file.ask(numbers);
-            self.read_missing(alloc);
-        }
-    }
-
-    /// Why reading the file failed after it was loaded; `None` where it didn't, or memory ran out.
-    pub fn failed_read(&self) -> Option<&'static str> {
-        match self.failed {
-            Some(kind) => reason(&io::Error::from(kind)),
-            None => None,
-        }
-    }
-
     /// Appends the answer for an address that has an RVA. What it lacks is read first.
     ///
     /// # Errors
@@ -292,53 +279,60 @@ impl<'a, F: FileExt + Drop> FileAnswers<'a, F> {
         }
         Err(AllocError)
     }
+}
 
-    /// Appends the answer for an address.
-    fn append_code(
-        &mut self,
-        alloc: Global,
+impl<'a, S, F> LoadedFile<'a, S> for FileAnswers<'a, F>
+where
+    S: Files<File = F> + AllocGlobal,
+    F: FileExt + Drop,
+{
+    fn load(
+        system: &S,
+        arena: &'a Bump,
+        name: &str,
         arguments: &Arguments<'_>,
-        asked: AskedAddress<'_>,
-        output: &mut Vec<u8>,
-    ) -> Result<(), AllocError> {
-        let AskedAddress { file, address, .. } = asked;
-        match rva_of(
-            address,
-            self.image_base,
-            arguments.adjust,
-            arguments.choices.relative,
-        ) {
-            Some(rva) => self.append_rva(alloc, arguments, asked, rva, output),
-            None => {
-                let no_function = ReportedFrame {
-                    function: Some(b""),
-                    file: None,
-                    line: 0,
-                    column: 0,
-                };
-                let frames = [no_function];
-                append_frames(alloc, output, arguments.texts, file, Some(address), &frames)
-            }
+    ) -> Result<FileAnswers<'a, F>, OpenError> {
+        open(system, arena, name, arguments)
+    }
+
+    fn expect(&mut self, arguments: &Arguments<'_>, address: u64) -> Result<(), AllocError> {
+        let Some(rva) = arguments.rva_of(address, self.image_base) else {
+            return Ok(());
+        };
+        if let Some(number) = self.file.module_at(rva) {
+            self.expected.push(number)?;
+        }
+        Ok(())
+    }
+
+    fn read_expected(&mut self, alloc: Global) {
+        let numbers = mem::replace(&mut self.expected, Vec::new(alloc));
+        if self.file.reads_exactly() && !numbers.is_empty() {
+            self.file.ask(numbers);
+            self.read_missing(alloc);
         }
     }
 
-    /// Appends the answer to a request.
-    ///
-    /// # Errors
-    /// Where memory ran out, or reading the file failed, which [`failed_read`](Self::failed_read)
-    /// tells then.
-    pub fn append_asked(
+    fn failed_read(&self) -> Option<&'static str> {
+        match self.failed {
+            Some(kind) => reason(&io::Error::from(kind)),
+            None => None,
+        }
+    }
+
+    fn append_asked(
         &mut self,
         alloc: Global,
         arguments: &Arguments<'_>,
         asked: AskedAddress<'_>,
         output: &mut Vec<u8>,
     ) -> Result<(), AllocError> {
-        let AskedAddress { file, address, .. } = asked;
-        match asked.command {
-            Command::Code => self.append_code(alloc, arguments, asked, output),
-            Command::Data => append_no_data(alloc, output, arguments.texts, file, address),
-            Command::Frame => append_no_locals(alloc, output, arguments.texts, file, address),
+        let (file, address) = (asked.file, asked.address);
+        match (asked.command, arguments.rva_of(address, self.image_base)) {
+            (Command::Code, Some(rva)) => self.append_rva(alloc, arguments, asked, rva, output),
+            (Command::Code, None) => append_no_function(alloc, arguments.texts, asked, output),
+            (Command::Data, _) => append_no_data(alloc, output, arguments.texts, file, address),
+            (Command::Frame, _) => append_no_locals(alloc, output, arguments.texts, file, address),
         }
     }
 }

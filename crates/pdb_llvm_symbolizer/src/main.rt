@@ -29,11 +29,12 @@ use anyhow::{Result, anyhow, bail};
 use arguments::{Arguments, read_arguments};
 use bumpalo::Bump;
 use choices::Choices;
-use files::AskedFiles;
+use files::{AskedFiles, LoadedFile};
 use folders::unless_memory;
 use given_words::{GivenWords, given_words};
 use help::{HELP, VERSION};
 use lines::{RequestAnswers, write_answers, write_made};
+use loaded::FileAnswers;
 use pdb_engine::{InputFault, Watched, run};
 use std::fs;
 use std::io::{self, Read, Write};
@@ -149,12 +150,10 @@ fn answer_requests<
     writer: &mut Watched<W>,
 ) -> Result<bool, InputFault> {
     let arena = Bump::new(rt.alloc());
-    let files = AskedFiles::new(rt.alloc(), arguments, &arena);
-    let room = Vec::new(rt.alloc());
+    let files = AskedFiles::<'_, S, FileAnswers<'_, F>>::new(rt, arguments, &arena);
     let mut answers = RequestAnswers {
-        system: rt,
         files,
-        room,
+        room: Vec::new(rt.alloc()),
         is_short: false,
     };
     let outcome = answer_by(&mut answers, arguments, reader, writer);
@@ -164,8 +163,8 @@ fn answer_requests<
 
 /// Loads the file of `--obj`, and answers the addresses; returns whether all files that were loaded
 /// could be read. Where standard input can't be read, as where it is closed, it has ended.
-fn answer_by<S: Files<File = F> + Eprint + AllocGlobal, F: FileExt + Drop, R: Read, W: Write>(
-    answers: &mut RequestAnswers<'_, S, F>,
+fn answer_by<'a, S: Eprint + AllocGlobal, L: LoadedFile<'a, S>, R: Read, W: Write>(
+    answers: &mut RequestAnswers<'a, S, L>,
     arguments: &Arguments<'_>,
     reader: &mut Watched<R>,
     writer: &mut Watched<W>,
@@ -174,26 +173,32 @@ fn answer_by<S: Files<File = F> + Eprint + AllocGlobal, F: FileExt + Drop, R: Re
         return Ok(false);
     }
     let outcome = if arguments.choices.inputs.is_empty() {
-        run(answers.system.alloc(), answers, reader, writer, u64::MAX)
+        run(
+            answers.files.system.alloc(),
+            answers,
+            reader,
+            writer,
+            u64::MAX,
+        )
     } else {
         write_answers(answers, arguments, writer)
     };
     match outcome {
         Ok(()) | Err(InputFault::Read(_)) => Ok(true),
         // A file that can't be read ends a run as lack of memory does.
-        Err(InputFault::OutOfMemory) if answers.files.tell_failed_read(answers.system) => Ok(false),
+        Err(InputFault::OutOfMemory) if answers.files.tell_failed_read() => Ok(false),
         Err(fault) => Err(fault),
     }
 }
 
 /// Loads the file of `--obj`, if it is given. Returns whether that is loaded; where it isn't, the
 /// error is written in JSON.
-fn load_object<S: Files<File = F> + Eprint + AllocGlobal, F: FileExt + Drop, W: Write>(
-    answers: &mut RequestAnswers<'_, S, F>,
+fn load_object<'a, S: Eprint + AllocGlobal, L: LoadedFile<'a, S>, W: Write>(
+    answers: &mut RequestAnswers<'a, S, L>,
     writer: &mut Watched<W>,
 ) -> Result<bool, InputFault> {
     answers.room.clear();
-    match answers.files.ask_object(answers.system, &mut answers.room) {
+    match answers.files.ask_object(&mut answers.room) {
         Ok(true) => Ok(true),
         Ok(false) => {
             write_made(Ok(()), &answers.room, writer)?;
