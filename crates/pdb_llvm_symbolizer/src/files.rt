@@ -3,7 +3,6 @@
 use crate::arguments::Arguments;
 use crate::choices::{Choices, push};
 use crate::open_error::OpenError;
-use bumpalo::Bump;
 use pdb_llvm_protocol::{
     Command, LineRequest, ReportedFrame, RequestFault, RequestedFile, Style, append_error,
     append_frames, append_no_data, append_no_locals, before_nul, read_request,
@@ -22,19 +21,17 @@ pub struct AskedAddress<'n> {
     pub address: u64,
 }
 
-/// A file that is loaded through a system of type `S`, and answers its addresses.
-pub trait LoadedFile<'a, S>: Drop {
-    /// Loads the file of this name into an arena.
+/// What loads files of type `L`.
+pub trait Loads<L> {
+    /// Loads the file of this name.
     ///
     /// # Errors
     /// Why it can't be loaded.
-    fn load(
-        system: &S,
-        arena: &'a Bump,
-        name: &str,
-        arguments: &Arguments<'_>,
-    ) -> Result<Self, OpenError>;
+    fn load(&self, name: &str, arguments: &Arguments<'_>) -> Result<L, OpenError>;
+}
 
+/// A file that is loaded, and answers its addresses.
+pub trait LoadedFile: Drop {
     /// Notes the module that holds an address which is asked for next.
     ///
     /// # Errors
@@ -70,11 +67,11 @@ struct AskedFile<L: Drop> {
 
 /// The files that were asked for, each loaded once, and how their addresses are answered.
 #[derive(Drop)]
-pub struct AskedFiles<'a, S: Eprint + AllocGlobal, L: Drop> {
-    /// What opens files and writes errors.
+pub struct AskedFiles<'a, S: Eprint + AllocGlobal, O: Drop, L: Drop> {
+    /// What errors are written to.
     pub system: &'a S,
+    loader: O,
     arguments: &'a Arguments<'a>,
-    arena: &'a Bump,
     files: Vec<AskedFile<L>>,
     /// The number of each file, by its name in requests.
     numbers: BTreeMap<Vec<u8>, usize>,
@@ -234,8 +231,8 @@ impl<L: Drop> AskedFile<L> {
 }
 
 /// Appends the answer to a request by a file.
-fn append_by_file<'a, S: AllocGlobal, L: LoadedFile<'a, S>>(
-    system: &S,
+fn append_by_file<L: LoadedFile>(
+    alloc: Global,
     arguments: &Arguments<'_>,
     file: &mut AskedFile<L>,
     request: LineRequest<'_>,
@@ -248,8 +245,8 @@ fn append_by_file<'a, S: AllocGlobal, L: LoadedFile<'a, S>>(
         address: request.address,
     };
     match loaded {
-        Ok(loaded) => loaded.append_asked(system.alloc(), arguments, asked, output),
-        Err(reason) => append_failure(system.alloc(), output, arguments, asked, reason),
+        Ok(loaded) => loaded.append_asked(alloc, arguments, asked, output),
+        Err(reason) => append_failure(alloc, output, arguments, asked, reason),
     }
 }
 
@@ -273,17 +270,18 @@ fn append_build_id(
     append_failure(rt.alloc(), output, arguments, asked, reason)
 }
 
-impl<'a, S: Eprint + AllocGlobal, L: LoadedFile<'a, S>> AskedFiles<'a, S, L> {
+impl<'a, S, O, L> AskedFiles<'a, S, O, L>
+where
+    S: Eprint + AllocGlobal,
+    O: Loads<L> + Drop,
+    L: LoadedFile,
+{
     /// No files, which are asked as the arguments say.
-    pub fn new(
-        system: &'a S,
-        arguments: &'a Arguments<'a>,
-        arena: &'a Bump,
-    ) -> AskedFiles<'a, S, L> {
+    pub fn new(system: &'a S, loader: O, arguments: &'a Arguments<'a>) -> AskedFiles<'a, S, O, L> {
         AskedFiles {
             system,
+            loader,
             arguments,
-            arena,
             files: Vec::new(system.alloc()),
             numbers: BTreeMap::new(system.alloc()),
         }
@@ -304,7 +302,7 @@ impl<'a, S: Eprint + AllocGlobal, L: LoadedFile<'a, S>> AskedFiles<'a, S, L> {
 
     /// Loads the file of this name, and reports it where it can't be loaded.
     fn load(&mut self, text: String) -> Result<(), AllocError> {
-        let opened = L::load(self.system, self.arena, text.as_str(), self.arguments);
+        let opened = self.loader.load(text.as_str(), self.arguments);
         push_opened(self.system, self.arguments, &mut self.files, text, opened)
     }
 
@@ -362,7 +360,13 @@ impl<'a, S: Eprint + AllocGlobal, L: LoadedFile<'a, S>> AskedFiles<'a, S, L> {
         let number = self.ask(name)?;
         match self.files.get_mut(number) {
             None => Ok(()),
-            Some(file) => append_by_file(self.system, self.arguments, file, request, output),
+            Some(file) => append_by_file(
+                self.system.alloc(),
+                self.arguments,
+                file,
+                request,
+                output,
+            ),
         }
     }
 

@@ -3,7 +3,7 @@
 ghost use Rattle.std.specs.Prelude.{[]};
 
 use crate::arguments::Arguments;
-use crate::files::{AskedFiles, LoadedFile};
+use crate::files::{AskedFiles, LoadedFile, Loads};
 use pdb_engine::{
     Answers, InputFault, LineStart, LongStart, Request, Watched, write_all, write_fault,
 };
@@ -13,19 +13,20 @@ use std::io::Write;
 
 /// What answers the requests of a run: its files, and room for a text.
 #[derive(Drop)]
-pub struct RequestAnswers<'a, S: Eprint + AllocGlobal, L: Drop> {
+pub struct RequestAnswers<'a, S: Eprint + AllocGlobal, O: Drop, L: Drop> {
     /// The files that were asked for.
-    pub files: AskedFiles<'a, S, L>,
+    pub files: AskedFiles<'a, S, O, L>,
     /// Room in which each text is made.
     pub room: Vec<u8>,
     /// Whether memory ran out while lines were made ready for. Then none is answered.
     pub is_short: bool,
 }
 
-impl<'a, S, L> Answers for RequestAnswers<'a, S, L>
+impl<'a, S, O, L> Answers for RequestAnswers<'a, S, O, L>
 where
     S: Eprint + AllocGlobal,
-    L: LoadedFile<'a, S>,
+    O: Loads<L> + Drop,
+    L: LoadedFile,
 {
     type Start = LongStart;
 
@@ -93,10 +94,11 @@ fn marks_of(texts: TextOptions) -> Marks {
     }
 }
 
-impl<'a, S, L> RequestAnswers<'a, S, L>
+impl<'a, S, O, L> RequestAnswers<'a, S, O, L>
 where
     S: Eprint + AllocGlobal,
-    L: LoadedFile<'a, S>,
+    O: Loads<L> + Drop,
+    L: LoadedFile,
 {
     /// Makes ready for a line, and returns whether that may be done for lines after it, too.
     fn expects(&mut self, line: &[u8]) -> bool {
@@ -150,8 +152,8 @@ pub fn write_made<W: Write>(
 ///
 /// # Errors
 /// `OutOfMemory`, or that the writer failed.
-pub fn write_answers<'a, S: Eprint + AllocGlobal, L: LoadedFile<'a, S>, W: Write>(
-    answers: &mut RequestAnswers<'a, S, L>,
+pub fn write_answers<S: Eprint + AllocGlobal, O: Loads<L> + Drop, L: LoadedFile, W: Write>(
+    answers: &mut RequestAnswers<'_, S, O, L>,
     arguments: &Arguments<'_>,
     writer: &mut Watched<W>,
 ) -> Result<(), InputFault> {

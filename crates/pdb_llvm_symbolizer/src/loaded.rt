@@ -7,7 +7,7 @@ use crate::arguments::Arguments;
 use crate::choices::FunctionName;
 use crate::columns::Columns;
 use crate::database::open;
-use crate::files::{AskedAddress, LoadedFile};
+use crate::files::{AskedAddress, LoadedFile, Loads};
 use crate::first_row::{FirstRow, with_first_row};
 use crate::names::FunctionNames;
 use crate::open_error::{OpenError, reason};
@@ -22,6 +22,7 @@ use pdb_llvm_protocol::{
 };
 use std::alloc::{AllocError, Global};
 use std::io::{self, ErrorKind};
+use std::marker::PhantomData;
 use std::mem;
 use std::os::unix::fs::FileExt;
 use std::rt::Files;
@@ -36,6 +37,8 @@ pub struct FileAnswers<'a, F: Drop> {
     expected: Vec<usize>,
     /// How reading the file failed after it was loaded, if it did.
     failed: Option<ErrorKind>,
+    /// What the file is read through, and for how long.
+    reader: PhantomData<&'a F>,
 }
 
 /// What names the functions of a file, and the columns of its lines.
@@ -217,6 +220,7 @@ impl<'a, F: FileExt + Drop> FileAnswers<'a, F> {
             texts,
             expected: Vec::new(alloc),
             failed: None,
+            reader: PhantomData,
         }
     }
 
@@ -281,20 +285,36 @@ impl<'a, F: FileExt + Drop> FileAnswers<'a, F> {
     }
 }
 
-impl<'a, S, F> LoadedFile<'a, S> for FileAnswers<'a, F>
+/// What loads files through a system into an arena.
+#[derive(Drop)]
+pub struct FileLoader<'a, S, F: Drop> {
+    system: &'a S,
+    arena: &'a Bump,
+    file: PhantomData<F>,
+}
+
+impl<'a, S, F: Drop> FileLoader<'a, S, F> {
+    /// What loads files through this system into this arena.
+    pub fn new(system: &'a S, arena: &'a Bump) -> FileLoader<'a, S, F> {
+        FileLoader {
+            system,
+            arena,
+            file: PhantomData,
+        }
+    }
+}
+
+impl<'a, S, F> Loads<FileAnswers<'a, F>> for FileLoader<'a, S, F>
 where
     S: Files<File = F> + AllocGlobal,
     F: FileExt + Drop,
 {
-    fn load(
-        system: &S,
-        arena: &'a Bump,
-        name: &str,
-        arguments: &Arguments<'_>,
-    ) -> Result<FileAnswers<'a, F>, OpenError> {
-        open(system, arena, name, arguments)
+    fn load(&self, name: &str, arguments: &Arguments<'_>) -> Result<FileAnswers<'a, F>, OpenError> {
+        open(self.system, self.arena, name, arguments)
     }
+}
 
+impl<'a, F: FileExt + Drop> LoadedFile for FileAnswers<'a, F> {
     fn expect(&mut self, arguments: &Arguments<'_>, address: u64) -> Result<(), AllocError> {
         let Some(rva) = arguments.rva_of(address, self.image_base) else {
             return Ok(());

@@ -29,12 +29,12 @@ use anyhow::{Result, anyhow, bail};
 use arguments::{Arguments, read_arguments};
 use bumpalo::Bump;
 use choices::Choices;
-use files::{AskedFiles, LoadedFile};
+use files::{AskedFiles, LoadedFile, Loads};
 use folders::unless_memory;
 use given_words::{GivenWords, given_words};
 use help::{HELP, VERSION};
 use lines::{RequestAnswers, write_answers, write_made};
-use loaded::FileAnswers;
+use loaded::FileLoader;
 use pdb_engine::{InputFault, Watched, run};
 use std::fs;
 use std::io::{self, Read, Write};
@@ -150,7 +150,8 @@ fn answer_requests<
     writer: &mut Watched<W>,
 ) -> Result<bool, InputFault> {
     let arena = Bump::new(rt.alloc());
-    let files = AskedFiles::<'_, S, FileAnswers<'_, F>>::new(rt, arguments, &arena);
+    let loader: FileLoader<'_, S, F> = FileLoader::new(rt, &arena);
+    let files = AskedFiles::new(rt, loader, arguments);
     let mut answers = RequestAnswers {
         files,
         room: Vec::new(rt.alloc()),
@@ -163,8 +164,8 @@ fn answer_requests<
 
 /// Loads the file of `--obj`, and answers the addresses; returns whether all files that were loaded
 /// could be read. Where standard input can't be read, as where it is closed, it has ended.
-fn answer_by<'a, S: Eprint + AllocGlobal, L: LoadedFile<'a, S>, R: Read, W: Write>(
-    answers: &mut RequestAnswers<'a, S, L>,
+fn answer_by<S: Eprint + AllocGlobal, O: Loads<L> + Drop, L: LoadedFile, R: Read, W: Write>(
+    answers: &mut RequestAnswers<'_, S, O, L>,
     arguments: &Arguments<'_>,
     reader: &mut Watched<R>,
     writer: &mut Watched<W>,
@@ -193,8 +194,8 @@ fn answer_by<'a, S: Eprint + AllocGlobal, L: LoadedFile<'a, S>, R: Read, W: Writ
 
 /// Loads the file of `--obj`, if it is given. Returns whether that is loaded; where it isn't, the
 /// error is written in JSON.
-fn load_object<'a, S: Eprint + AllocGlobal, L: LoadedFile<'a, S>, W: Write>(
-    answers: &mut RequestAnswers<'a, S, L>,
+fn load_object<S: Eprint + AllocGlobal, O: Loads<L> + Drop, L: LoadedFile, W: Write>(
+    answers: &mut RequestAnswers<'_, S, O, L>,
     writer: &mut Watched<W>,
 ) -> Result<bool, InputFault> {
     answers.room.clear();
