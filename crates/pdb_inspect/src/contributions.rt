@@ -3,37 +3,11 @@
 use crate::fault::{Fault, load_fault};
 use crate::loaded::Loaded;
 use pdb_addr2line::{KeptModules, LoadFault};
-use pdb_container::{Error, FallibleIterator, Result as ReadResult};
+use pdb_container::{Error, FallibleIterator};
 use pdb_listings::{Counts, ModulePart, module_sizes};
 use pdb_resolving::ModuleProvider;
 use pdb_symbols_modules::{DBISectionContribution, Module, ModuleInfo};
 use std::alloc::{AllocError, Global};
-
-/// All that an iterator returns, in its order.
-fn collected<I: FallibleIterator<Error = Error>>(
-    alloc: Global,
-    list: &mut I,
-) -> ReadResult<Vec<I::Item>>
-where
-    I::Item: Drop,
-{
-    let mut found = Vec::new(alloc);
-    for _ in 0..u64::MAX {
-        match list.next()? {
-            Some(item) => found.push(item)?,
-            None => break,
-        }
-    }
-    Ok(found)
-}
-
-/// A list of a database, with the database's path where it can't be read.
-fn list_of<T: Drop>(alloc: Global, path: &str, read: ReadResult<Vec<T>>) -> Result<Vec<T>, Fault> {
-    match read {
-        Ok(list) => Ok(list),
-        Err(error) => Err(load_fault(alloc, path, LoadFault::from(error))),
-    }
-}
 
 /// The section contributions of a database, in the order of its list.
 ///
@@ -43,11 +17,20 @@ pub fn contributions_of(
     alloc: Global,
     loaded: Loaded<'_>,
 ) -> Result<Vec<DBISectionContribution>, Fault> {
-    let read = match loaded.held.debug_information().section_contributions() {
-        Ok(mut list) => collected(alloc, &mut list),
-        Err(error) => Err(error),
+    let path = loaded.path;
+    let mut found = Vec::new(alloc);
+    let mut list = match loaded.held.debug_information().section_contributions() {
+        Ok(list) => list,
+        Err(error) => return Err(load_fault(alloc, path, LoadFault::from(error))),
     };
-    list_of(alloc, loaded.path, read)
+    for _ in 0..u64::MAX {
+        match list.next() {
+            Ok(Some(contribution)) => found.push(contribution)?,
+            Ok(None) => break,
+            Err(error) => return Err(load_fault(alloc, path, LoadFault::from(error))),
+        }
+    }
+    Ok(found)
 }
 
 /// The modules of a database, in the order of its list.
@@ -55,8 +38,17 @@ pub fn contributions_of(
 /// # Errors
 /// `Load`, `OutOfMemory`.
 pub fn modules_of<'a>(alloc: Global, loaded: Loaded<'a>) -> Result<Vec<Module<'a>>, Fault> {
+    let path = loaded.path;
+    let mut found = Vec::new(alloc);
     let mut list = loaded.held.debug_information().modules();
-    list_of(alloc, loaded.path, collected(alloc, &mut list))
+    for _ in 0..u64::MAX {
+        match list.next() {
+            Ok(Some(module)) => found.push(module)?,
+            Ok(None) => break,
+            Err(error) => return Err(load_fault(alloc, path, LoadFault::from(error))),
+        }
+    }
+    Ok(found)
 }
 
 /// What a module's own stream holds; `None` where it has none, or it can't be read.

@@ -111,14 +111,12 @@ fn with_needs<'a, F: FileExt + Drop>(
 
 /// The modules that a context goes over. The context is left to the process.
 fn modules_in(context: Option<FileContext<'_>>) -> Option<&KeptModules<'static>> {
-    match context {
-        Some(context) => {
-            let modules = context.provider();
-            forget(context);
-            Some(modules)
-        }
+    let modules = match &context {
+        Some(context) => Some(context.provider()),
         None => None,
-    }
+    };
+    forget(context);
+    modules
 }
 
 /// A database by what was read of its file, which is let go of.
