@@ -1,5 +1,5 @@
 -- The records that identify a symbol file's database and its image.
-use Rattle.std.specs.Prelude.{◌≡◌, ℕ, Option, Result, Err, option_copied}
+use Rattle.std.specs.Prelude.{◌≡◌, ℕ, Result, Err, option_copied}
 use Rattle.pdb_loading.specs.declared.load_fault.LoadFault.TheVariants as faults
 use Rattle.pdb_symbols.specs.declared.fault.SymbolsFault.{SymbolsFault}
 use Rattle.pdb_symbols.specs.declared.fault.SymbolsFault.TheVariants as ends

@@ -56,10 +56,6 @@ told_place_by inlines f p =
     told_place inlines (database_named f.flags f.order (streams f.contents))
     (frames_named f.flags f.order (streams f.contents)) p
 
--- what is told of an address from a file that is read on demand
-abbrev pub told_by : Bool → FileAnswers → ℕ → Option Told
-told_by inlines f a = told_named inlines f.flags f.order (streams f.contents) a
-
 -- a run has what is told of each of its places, from one on
 abbrev pub TellsPlaces : (Place → Option Told) → Place → ToldRun → Type 0
 TellsPlaces told p run = (k : ℕ) → k < run.count → told (on p k) ≡ run.told

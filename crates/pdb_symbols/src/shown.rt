@@ -1,7 +1,5 @@
 //! Addresses with what is told of them, while the progress of the work is shown.
 
-ghost use Rattle.std.specs.Prelude.{◌≡◌};
-
 use crate::progress::Progress;
 use pdb_symbol_files::{ToldFault, ToldRun, ToldRuns};
 use std::alloc::Global;

@@ -1,4 +1,4 @@
-use Rattle.std.proofs.Common.{ap, refl, false}
+use Rattle.std.proofs.Common.{refl, false}
 use Rattle.std.specs.Prelude.{option_copied}
 use Rattle.std.proofs.lemmas.Result.{err_from_is_err_and}
 use Rattle.pdb_symbols.specs.Described.{asked_of}
