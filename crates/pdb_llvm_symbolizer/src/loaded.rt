@@ -37,8 +37,6 @@ pub struct FileAnswers<'a, F: Drop> {
     expected: Vec<usize>,
     /// How reading the file failed after it was loaded, if it did.
     failed: Option<ErrorKind>,
-    /// What the file is read through, and for how long.
-    reader: PhantomData<&'a F>,
 }
 
 /// What names the functions of a file, and the columns of its lines.
@@ -220,7 +218,6 @@ impl<'a, F: FileExt + Drop> FileAnswers<'a, F> {
             texts,
             expected: Vec::new(alloc),
             failed: None,
-            reader: PhantomData,
         }
     }
 
