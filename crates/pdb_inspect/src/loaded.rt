@@ -9,7 +9,7 @@ use crate::opened_file::open;
 use bumpalo::Bump;
 use pdb_addr2line::{
     ContributionOrder, FileContext, FileOnDemand, FileSymbolizer, Held, KeptModules, LoadFault,
-    NotLoaded, Result as ContextResult, TRIES, TypeFormatterFlags,
+    NotLoaded, TRIES, TypeFormatterFlags,
 };
 use pdb_addresses::AddressMap;
 use pdb_container::{Error, Result as ReadResult, StringTable};
@@ -201,23 +201,22 @@ impl<'a> Loaded<'a> {
     /// # Errors
     /// `Load` where its address map is out of order; `OutOfMemory`.
     pub fn context(self, alloc: Global) -> Result<FileContext<'a>, Fault> {
-        self.address_map(alloc)?;
-        match context_over(alloc, self.held, self.modules) {
+        if !self.held.address_map().is_ordered() {
+            let fault = LoadFault::AddressTableDecreases;
+            return Err(load_fault(alloc, self.path, fault));
+        }
+        let flags = TypeFormatterFlags::default();
+        let order = ContributionOrder::Any;
+        let made = match self.held.make_context_with_order(alloc, flags, order) {
+            Ok(context) => {
+                let parts = context.into_parts();
+                self.held.make_context_over(alloc, self.modules, parts)
+            }
+            Err(error) => Err(error),
+        };
+        match made {
             Ok(context) => Ok(context),
             Err(error) => Err(load_fault(alloc, self.path, LoadFault::from(error))),
         }
-    }
-}
-
-/// A context over a database, and over modules of it.
-fn context_over<'a>(
-    alloc: Global,
-    held: &'a Held,
-    modules: &'a KeptModules<'static>,
-) -> ContextResult<FileContext<'a>> {
-    let flags = TypeFormatterFlags::default();
-    match held.make_context_with_order(alloc, flags, ContributionOrder::Any) {
-        Ok(context) => held.make_context_over(alloc, modules, context.into_parts()),
-        Err(error) => Err(error),
     }
 }
