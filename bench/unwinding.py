@@ -76,7 +76,8 @@ def main(program):
                 seconds, memory, status, said = meter.measured(words, limit=120)
                 with open(f"{room}/g.sym", "rb") as file:
                     size = len(file.read()) if status == 0 else 0
-                sizes = f"{len(made) / 1e6:.2f}", f"{seconds:.2f}", f"{memory:.0f}", f"{size / 1e6:.1f}"
+                sizes = f"{len(made) / 1e6:.2f}", f"{seconds:.2f}"
+                sizes += f"{memory:.0f}", f"{size / 1e6:.1f}"
                 print(f"| {entries} | {kind} |", " | ".join(sizes), f"| {said or ''}")
 
 

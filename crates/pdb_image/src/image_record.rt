@@ -78,7 +78,7 @@ impl<'f, F: FileExt> Places<'f, F> {
         self.part_within(alloc, place, COFF_HEADER + optional_header + sections)
     }
 
-    /// The headers of an image, with the PE signature right behind the DOS header, wherever the
+    /// The headers of an image, with the PE signature right after the DOS header, wherever the
     /// file has it.
     fn headers(&self, alloc: Global) -> io::Result<Vec<u8>> {
         let Some(mut bytes) = self.part(alloc, 0, DOS_HEADER)? else {

@@ -69,7 +69,7 @@ fn made_by_file<'b, F: FileExt + Drop, E: Write + Drop>(
     })
 }
 
-/// The file of a database of which nothing more is told.
+/// The file of a database of which nothing more is asked.
 fn close<'a, F: Drop, E: Drop>(runs: Shown<FileTold<'a, F>, E>) -> FileOnDemand<'a, F>
     ensures views { result.views ≡ runs.entry.told.symbolizer.views }
     ensures contents { result.contents.numbers ≡ runs.entry.told.symbolizer.contents }

@@ -47,7 +47,7 @@ impl<'a> ToldRuns for MemoryTold<'a> {
             Some(place) => place,
         };
         let inlines = self.inlines;
-        // the context has a count of its own
+        // The context has a count of its own.
         let mut lookups = 0;
         match told_at_place(
             alloc,

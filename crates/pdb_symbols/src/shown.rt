@@ -1,4 +1,4 @@
-//! Addresses with what is told of them, while the progress of the work is shown.
+//! Runs of addresses, while the progress of the work is shown.
 
 use crate::progress::Progress;
 use pdb_symbol_files::{ToldFault, ToldRun, ToldRuns};
